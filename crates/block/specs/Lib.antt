@@ -1,0 +1,5 @@
+pub mod Blanks
+pub mod Layout
+pub mod Held
+pub mod Storing
+pub mod Writing

@@ -1,0 +1,4 @@
+mod equations;
+mod fields;
+mod items;
+pub mod nodes;
