@@ -27,9 +27,9 @@ padded-front n d xs h =
     let long : length (padded n d xs) ≡ n = length-written (replicate n d) 0 xs ∙ length-replicate n d in
     let short : length (take (length xs) (padded n d xs)) ≡ length xs = length-take-le (length xs) (padded n d xs) (omega (arith, long)) in
     list-ext d (take (length xs) (padded n d xs)) xs short (λ i l.
-      getD-take (length xs) (padded n d xs) i d (omega (arith, short))
-      ∙ ap (λ j. getD (padded n d xs) j d) (sym (zero-add i))
-      ∙ written-at (replicate n d) 0 xs i d (omega (arith, short)) (omega (arith, short, length-replicate n d)))
+    getD-take (length xs) (padded n d xs) i d (omega (arith, short))
+    ∙ ap (λ j. getD (padded n d xs) j d) (sym (zero-add i))
+    ∙ written-at (replicate n d) 0 xs i d (omega (arith, short)) (omega (arith, short, length-replicate n d)))
 
 -- the cells stand among all cells from `from` on
 abbrev pub CellsAt : List Cell → ℕ → List Cell → Type 0

@@ -125,8 +125,8 @@ holds-loaded t r s at count nodes c h f w n =
       cells = λ i.
           ap (λ cs. getD cs i blank-cell) held
           ∙ ⊎-elim
-            (λ (l : i < length (block-cells b)). ap (λ j. getD (written (now (t .store .cells)) 0 (block-cells b)) j blank-cell) (sym (zero-add i)) ∙ written-at (now (t .store .cells)) 0 (block-cells b) i blank-cell l (omega (arith, long, room, same)))
-            (λ (l : length (block-cells b) ≤ i). written-after (now (t .store .cells)) 0 (block-cells b) i blank-cell (omega arith) ∙ none-cells t h i ∙ sym (getD-past (block-cells b) i blank-cell l))
-            (cases-lt i (length (block-cells b)));
+          (λ (l : i < length (block-cells b)). ap (λ j. getD (written (now (t .store .cells)) 0 (block-cells b)) j blank-cell) (sym (zero-add i)) ∙ written-at (now (t .store .cells)) 0 (block-cells b) i blank-cell l (omega (arith, long, room, same)))
+          (λ (l : length (block-cells b) ≤ i). written-after (now (t .store .cells)) 0 (block-cells b) i blank-cell (omega arith) ∙ none-cells t h i ∙ sym (getD-past (block-cells b) i blank-cell l))
+          (cases-lt i (length (block-cells b)));
       room = room;
     }

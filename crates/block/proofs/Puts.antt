@@ -24,10 +24,10 @@ pub part-of : {A : Type 0} (f g l m n : ℕ) (xs : List A) → f ≡ l → g ≡
 part-of f g l m n xs e i o =
     (λ t. take (o t) (take-rest xs g t))
     ∙ ap (take n)
-      (⊎-elim
-        (λ (u : f < length xs). let h : min f (length xs) ≡ f = min-eq-left (omega arith) in ap (λ k. drop k xs) (i ∙ h ∙ e))
-        (λ (u : length xs ≤ f). let h : min f (length xs) ≡ length xs = min-eq-right u in drop-all g xs (omega (arith, i, h)) ∙ sym (drop-all l xs (omega (arith, e))))
-        (cases-lt f (length xs)))
+    (⊎-elim
+    (λ (u : f < length xs). let h : min f (length xs) ≡ f = min-eq-left (omega arith) in ap (λ k. drop k xs) (i ∙ h ∙ e))
+    (λ (u : length xs ≤ f). let h : min f (length xs) ≡ length xs = min-eq-right u in drop-all g xs (omega (arith, i, h)) ∙ sym (drop-all l xs (omega (arith, e))))
+    (cases-lt f (length xs)))
 
 pub size-append : (a b : List Field) → size (a ++ b) ≡ size a + size b
 size-append [] b = sym (zero-add (size b))

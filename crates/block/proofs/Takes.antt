@@ -32,11 +32,11 @@ module _ (w : ℕ) (bytes : List ℕ) (at : ℕ) (h : w ≤ 32) where
       let f : Some v ≡ field-at w (bits-of bytes) at = rw l at e in
       ⊎-elim
       (λ (s : length (bits-of bytes) < at + w).
-        let n = field-at-ends w (bits-of bytes) at s in
-        let z : _≡_ {A = ℕ} 0 1 = cc in absurd (omega arith))
+      let n = field-at-ends w (bits-of bytes) at s in
+      let z : _≡_ {A = ℕ} 0 1 = cc in absurd (omega arith))
       (λ (s : at + w ≤ length (bits-of bytes)).
-        let n = field-at-reads w (bits-of bytes) at s in
-        let b : at + w ≤ 8 * length bytes = omega (arith, length-bits bytes) in
-        let g : v ≡ number-of (take w (drop at (bits-of bytes))) = cc in
-        (rw (← f), b, rw g (number-part-below bytes at w w (omega arith))))
+      let n = field-at-reads w (bits-of bytes) at s in
+      let b : at + w ≤ 8 * length bytes = omega (arith, length-bits bytes) in
+      let g : v ≡ number-of (take w (drop at (bits-of bytes))) = cc in
+      (rw (← f), b, rw g (number-part-below bytes at w w (omega arith))))
       (cases-lt (length (bits-of bytes)) (at + w))

@@ -40,12 +40,12 @@ pub zeros-first : (n : ℕ) (out₀ out : List ℕ) → n ≤ length out₀ → 
 zeros-first n out₀ out h b =
     let long : length (replicate n 0 ++ drop n out₀) ≡ length out₀ = simp (length-append, length-replicate, length-drop) (omega arith) in
     list-ext 0 out (replicate n 0 ++ drop n out₀) (b .long ∙ sym long) (λ i l.
-      ⊎-elim
-      (λ (u : i < n). b .first i u ∙ sym (getD-append-left (replicate n 0) (drop n out₀) 0 i (simp length-replicate u) ∙ getD-replicate n i 0 0 u))
-      (λ (u : n ≤ i).
-        let e : n + (i - n) ≡ i = omega arith in
-        b .past i u ∙ sym (getD-append-right (replicate n 0) (drop n out₀) n i 0 (length-replicate n 0) u ∙ getD-drop n out₀ (i - n) 0 ∙ ap (λ k. getD out₀ k 0) e))
-      (cases-lt i n))
+    ⊎-elim
+    (λ (u : i < n). b .first i u ∙ sym (getD-append-left (replicate n 0) (drop n out₀) 0 i (simp length-replicate u) ∙ getD-replicate n i 0 0 u))
+    (λ (u : n ≤ i).
+    let e : n + (i - n) ≡ i = omega arith in
+    b .past i u ∙ sym (getD-append-right (replicate n 0) (drop n out₀) n i 0 (length-replicate n 0) u ∙ getD-drop n out₀ (i - n) 0 ∙ ap (λ k. getD out₀ k 0) e))
+    (cases-lt i n))
 
 pub length-fields : (fs : List Field) → length (fields-bits fs) ≡ size fs
 length-fields [] = ap length (joined-none _)
@@ -87,9 +87,10 @@ written-whole b rest out at h l v =
     let bits = fields-bits (block-fields b) in
     let e = encode-some b h in
     let s = length-fields (block-fields b) in
-    let z = set-bits-zeros 2048 bits rest (omega (arith, bits-fit b h l)) (fields-bits-bits (block-fields b)) in
-    (ap (λ k. (k + 7) / 8) (v .place ∙ zero-add (size (block-fields b))) ∙ sym (ap length e ∙ length-bytes-of bits ∙ ap (λ k. (k + 7) / 8) s)
-    , v .bytes ∙ put-bits (replicate 2048 0 ++ rest) 0 (block-fields b) ∙ z ∙ sym (ap (λ bs. bs ++ (replicate (2048 - length bs) 0 ++ rest)) e))
+    let z = set-bits-zeros 2048 bits rest (omega (arith, bits-fit b h l)) (fields-bits-bits (block-fields b)) in (
+      ap (λ k. (k + 7) / 8) (v .place ∙ zero-add (size (block-fields b))) ∙ sym (ap length e ∙ length-bytes-of bits ∙ ap (λ k. (k + 7) / 8) s),
+      v .bytes ∙ put-bits (replicate 2048 0 ++ rest) 0 (block-fields b) ∙ z ∙ sym (ap (λ bs. bs ++ (replicate (2048 - length bs) 0 ++ rest)) e),
+    )
 
 -- what can be read again has at most 2,048 bytes
 gave-most : (bytes : List ℕ) (r : Result BlockSyntax ReadFault) → decode bytes ≡ r → isOk r ≡ true → length bytes ≤ 2048

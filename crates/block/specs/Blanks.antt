@@ -30,7 +30,9 @@ blank-equation = record { clock = 0; form = Plain 0 blank-span }
 
 unfoldable pub blank-node : Node
 blank-node = record {
-  inputs = 0; outputs = 0; locals = 0;
+  inputs = 0;
+  outputs = 0;
+  locals = 0;
   flows = replicate 31 blank-flow;
   clocks = record { count = 0; rows = replicate 7 blank-clock };
   equations = record { count = 0; rows = replicate 23 blank-equation };

@@ -72,7 +72,9 @@ equations-row from es = record { count = length es; rows = padded 23 blank-equat
 
 abbrev pub node-row : ℕ → NodeSyntax → Node
 node-row from n = record {
-  inputs = n .inputs; outputs = n .outputs; locals = n .locals;
+  inputs = n .inputs;
+  outputs = n .outputs;
+  locals = n .locals;
   flows = padded 31 blank-flow (n .flows);
   clocks = record { count = length (n .clocks); rows = padded 7 blank-clock (n .clocks) };
   equations = equations-row from (n .equations);
@@ -101,7 +103,9 @@ equations-in cells es = map (equation-in cells) (take (es .count) (es .rows))
 
 abbrev pub node-in : List Cell → Node → NodeSyntax
 node-in cells n = record {
-  inputs = n .inputs; outputs = n .outputs; locals = n .locals;
+  inputs = n .inputs;
+  outputs = n .outputs;
+  locals = n .locals;
   flows = take (n .inputs + n .outputs + n .locals) (n .flows);
   clocks = take (n .clocks .count) (n .clocks .rows);
   equations = equations-in cells (n .equations);

@@ -4,8 +4,8 @@ ghost use lib.ListN.{length};
 ghost use Rattle.std.specs.Vec.{made};
 ghost use Rattle.syntax.specs.Parse.{field};
 ghost use Rattle.block.specs.Storing.{Reads, Moved};
-use bits::reading::field;
 use crate::reader::BitReader;
+use bits::reading::field;
 use syntax::fault::ReadFault;
 
 impl<'a> BitReader<'a> {

@@ -10,6 +10,7 @@ use syntax::fault::ReadFault;
 
 // No block has more cells, since each takes at least four of its bits.
 const MOST_CELLS: usize = 4096;
+
 const MOST_BYTES: usize = 2048;
 
 // Blanks the rows.

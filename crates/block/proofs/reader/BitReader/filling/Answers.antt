@@ -18,6 +18,6 @@ pub returns-else-rest-lt8 : need.returns-else-rest-lt8
 returns-else-rest-lt8 c =
     let s = c .args .self .now in
     elim (c .else-rest-lt8 .came) [
-    | else-rest-lt8·by·then-rest-lt8·in-Continue-take·else-branch-eq0 w ↦ sym (ended-set (s .bytes .now) (s .at) (s .within) _ _ (w .if-rest-lt8 .taken) (w .in-Continue-take .ensures tt .reads) (w .if-branch-eq0 .left))
-    | else-rest-lt8·by·else-rest-lt8 w ↦ sym (ended-long (s .bytes .now) (s .at) (s .within) (w .if-rest-lt8 .left))
+      | else-rest-lt8·by·then-rest-lt8·in-Continue-take·else-branch-eq0 w ↦ sym (ended-set (s .bytes .now) (s .at) (s .within) _ _ (w .if-rest-lt8 .taken) (w .in-Continue-take .ensures tt .reads) (w .if-branch-eq0 .left))
+      | else-rest-lt8·by·else-rest-lt8 w ↦ sym (ended-long (s .bytes .now) (s .at) (s .within) (w .if-rest-lt8 .left))
     ]

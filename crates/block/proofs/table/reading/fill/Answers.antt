@@ -29,8 +29,8 @@ returns-then-is-empty c =
     record {
       loads =
           elim (c .then-is-empty .came) [
-          | then-is-empty·by·then-is-empty w ↦ no-bytes n bs (c .if-table-lt-MOST-CELLS .left) (eqb-true (length bs) 0 (sym (c .is-empty .ensures) ∙ w .if-is-empty .taken))
-          | then-is-empty·by·else-is-empty·then-bytes-gt-MOST-BYTES w ↦ many-bytes n bs (c .if-table-lt-MOST-CELLS .left) (w .if-bytes-gt-MOST-BYTES .taken)
+            | then-is-empty·by·then-is-empty w ↦ no-bytes n bs (c .if-table-lt-MOST-CELLS .left) (eqb-true (length bs) 0 (sym (c .is-empty .ensures) ∙ w .if-is-empty .taken))
+            | then-is-empty·by·else-is-empty·then-bytes-gt-MOST-BYTES w ↦ many-bytes n bs (c .if-table-lt-MOST-CELLS .left) (w .if-bytes-gt-MOST-BYTES .taken)
           ];
       past = λ i h. none-cells (c .args .table .now) (c .pre) i;
       long = refl;
