@@ -20,11 +20,11 @@ use Rattle.syntax.specs.Encoder.{encode}
 use Rattle.syntax.proofs.Sizes.{decode-encodable}
 use Rattle.syntax.proofs.Trips.{round-trip}
 use Rattle.bits.specs.Bits.{Bytes}
-use Rattle.block.specs.declared.table.Table.{Table}
-use Rattle.block.specs.Blanks.{blank-cell}
-use Rattle.block.specs.Layout.{block-cells}
-use Rattle.block.specs.Held.{Holds, block-in, is-blank, readable, read-answer, read-block}
-use Rattle.block.proofs.Backward.{holds-block}
+use Rattle.layout.specs.declared.table.Table.{Table}
+use Rattle.layout.specs.Blanks.{blank-cell}
+use Rattle.layout.specs.Layout.{block-cells}
+use Rattle.layout.specs.Held.{Holds, block-in, is-blank, readable, read-answer, read-block}
+use Rattle.layout.proofs.Backward.{holds-block}
 
 -- past the cells of the block that rows hold they are blank
 pub held-past : (t : Table) (b : BlockSyntax) → Holds t b → (i : ℕ) → t .store .used ≤ i → is-blank (getD (now (t .store .cells)) i blank-cell) ≡ true

@@ -1,12 +1,1 @@
-pub mod Takes
-pub mod Blanking
-pub mod Gathering
-pub mod Filling
-pub mod Lists
-pub mod StoringLoops
-pub mod Endings
-pub mod Puts
-pub mod Loading
-pub mod Backward
-pub mod Wholes
 pub mod Keeping

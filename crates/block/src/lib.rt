@@ -1,8 +1,2 @@
-// Blocks as rows: a reader that turns bytes into rows, and a writer that turns them back.
-pub mod node;
-mod parts;
-mod reader;
+// Blocks as a host uses them: rows that read bytes and write them back.
 pub mod rows;
-mod store;
-mod table;
-mod writer;

@@ -2,9 +2,9 @@ ghost use mathlib.Core.Path.{_≡_};
 ghost use mathlib.Core.Bool.{true};
 ghost use Prim.Native.Nat.{ℕ, _≤_};
 ghost use lib.ListN.{getD};
-ghost use Rattle.block.specs.Blanks.{blank-cell};
-ghost use Rattle.block.specs.Held.{block-in, is-blank, readable};
-use crate::table::Table;
+ghost use Rattle.layout.specs.Blanks.{blank-cell};
+ghost use Rattle.layout.specs.Held.{block-in, is-blank, readable};
+use layout::table::Table;
 
 pub mod calls;
 

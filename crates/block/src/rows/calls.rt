@@ -5,23 +5,23 @@ ghost use lib.ListN.{length, getD, take};
 ghost use Rattle.std.specs.declared.result.Result.the-variants.{Ok};
 ghost use Rattle.syntax.specs.Decoder.{decode-into};
 ghost use Rattle.syntax.specs.Encoder.{encode};
-ghost use Rattle.block.specs.Blanks.{blank-cell};
-ghost use Rattle.block.specs.Layout.{expression-in};
-ghost use Rattle.block.specs.Held.{Holds, block-in, read-answer, read-block, write-answer, write-bytes};
-use crate::node::BLANK_NODE;
-use crate::node::Node;
-use crate::node::Span;
-use crate::parts::counted;
-use crate::parts::expression;
+ghost use Rattle.layout.specs.Blanks.{blank-cell};
+ghost use Rattle.layout.specs.Layout.{expression-in};
+ghost use Rattle.layout.specs.Held.{Holds, block-in, read-answer, read-block, write-answer, write-bytes};
 use crate::rows::Rows;
-use crate::store::BLANK_CELL;
-use crate::store::CellStore;
-use crate::table::Table;
-use crate::table::reading;
-use crate::table::writing;
+use layout::node::BLANK_NODE;
+use layout::node::Node;
+use layout::node::Span;
+use layout::parts::counted;
+use layout::parts::expression;
+use layout::store::BLANK_CELL;
+use layout::store::CellStore;
+use layout::table::Table;
+use reading::table as read_table;
 use syntax::cell::Cell;
 use syntax::fault::ReadFault;
 use syntax::fault::WriteFault;
+use writing::table as write_table;
 
 fn blank_all(cells: &mut [Cell])
     ensures { λ _. ⌜ ((i : ℕ) → getD (now (cells .exit)) i blank-cell ≡ blank-cell) ⌝ }
@@ -62,7 +62,7 @@ impl<'m> Rows<'m> {
         ensures back { λ a. ⌜ (a ≡ Ok tt → encode (block-in (now (self .exit) .table)) ≡ now (bytes .entry)) ⌝ }
         ensures long { λ _. ⌜ length (now (now (self .exit) .table .store .cells)) ≡ length (now (now (self .entry) .table .store .cells)) ⌝ }
     {
-        reading::read(&mut self.table, bytes)
+        read_table::read(&mut self.table, bytes)
     }
 
     // Writes the block and zeros over the first 2,048 bytes, and answers how many the block has.
@@ -70,7 +70,7 @@ impl<'m> Rows<'m> {
         ensures answer { λ a. ⌜ a ≡ write-answer (block-in (now (self .entry) .table)) (length (now (out .entry))) ⌝ }
         ensures bytes { λ _. ⌜ now (out .exit) ≡ write-bytes (block-in (now (self .entry) .table)) (now (out .entry)) ⌝ }
     {
-        writing::write(&self.table, out)
+        write_table::write(&self.table, out)
     }
 
     // The nodes of the block; none where the rows are blank.

@@ -1,7 +1,7 @@
 use mathlib.Core.Path.{refl, ap}
-use Rattle.block.specs.Blanks.{blank-node}
-use Rattle.block.specs.Held.{is-blank, block-in}
-use Rattle.block.proofs.Loading.{holds-none}
+use Rattle.layout.specs.Blanks.{blank-node}
+use Rattle.layout.specs.Held.{is-blank, block-in}
+use Rattle.reading.proofs.Loading.{holds-none}
 use Rattle.block.proofs.rows.Rows.new.Needs as need
 
 pub ghost-result : need.ghost-result

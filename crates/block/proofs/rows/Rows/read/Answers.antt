@@ -2,7 +2,7 @@ use mathlib.Core.Path.{_≡_, sym, ap, _∙_}
 use native.Mathlib.Omega.{arith}
 use lib.ListN.{length}
 use Rattle.syntax.specs.Encoder.{encode}
-use Rattle.block.specs.Held.{readable}
+use Rattle.layout.specs.Held.{readable}
 use Rattle.block.proofs.Keeping.{held-past, read-stands, read-readable, read-back}
 use Rattle.block.proofs.rows.Rows.read.Needs as need
 

@@ -1,5 +1,5 @@
-use Rattle.block.specs.Held.{block-in}
-use Rattle.block.proofs.Wholes.{readable-fits}
+use Rattle.layout.specs.Held.{block-in}
+use Rattle.writing.proofs.Wholes.{readable-fits}
 use Rattle.block.proofs.rows.Rows.write.Needs as need
 
 pub write-requires : need.write-requires

@@ -1,7 +1,7 @@
 use mathlib.Core.Logic.{⊎-elim, inr}
 use Prim.Native.Nat.{_<_, _≤_, _+_}
 use native.Mathlib.Omega.{arith}
-use Rattle.block.proofs.Blanking.{blanked-more, blanked-all}
+use Rattle.layout.proofs.Blanking.{blanked-more, blanked-all}
 use Rattle.block.proofs.rows.calls.blank_all.Needs as need
 
 pub loop-i-again : need.loop-i-again

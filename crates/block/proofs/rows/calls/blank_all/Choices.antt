@@ -1,5 +1,5 @@
-use Rattle.block.specs.Blanks.{blank-cell}
-use Rattle.block.proofs.Blanking.{Blanked}
+use Rattle.layout.specs.Blanks.{blank-cell}
+use Rattle.layout.proofs.Blanking.{Blanked}
 use Rattle.block.proofs.rows.calls.blank_all.Given as given
 
 abbrev pub Inv-loop-i : given.InvT-loop-i

@@ -1,4 +1,0 @@
-mod equations;
-mod fields;
-mod items;
-pub mod nodes;

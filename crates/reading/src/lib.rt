@@ -1,0 +1,3 @@
+// Bytes are read into rows, field by field.
+mod reader;
+pub mod table;
