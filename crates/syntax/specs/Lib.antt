@@ -4,3 +4,4 @@ pub mod Parse
 pub mod Decoder
 pub mod Encoder
 pub mod Laws
+pub mod Examples
