@@ -1,9 +1,9 @@
 use crate::rows::Rows;
 use std::test::*;
 use syntax::cell::Cell;
+use syntax::fault::Fault;
 use syntax::fault::FaultDebug;
 use syntax::fault::FaultPartialEq;
-use syntax::fault::Fault;
 use syntax::fault::ReadFault;
 use syntax::fault::Stage;
 use syntax::fault::StageDebug;
@@ -35,7 +35,10 @@ fn what_was_read_is_written() -> Result<(), Fail> {
     check_eq(told(rows.read(&INVERTER)), None)?;
     let mut out = [0xff; 2049];
     check_eq(rows.write(&mut out).ok(), Some(9))?;
-    check_eq([out[0], out[7], out[8], out[9], out[2047], out[2048]], [0xb7, 0x01, 0x80, 0, 0, 0xff])
+    check_eq(
+        [out[0], out[7], out[8], out[9], out[2047], out[2048]],
+        [0xb7, 0x01, 0x80, 0, 0, 0xff],
+    )
 }
 
 #[test]

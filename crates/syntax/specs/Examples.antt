@@ -14,7 +14,9 @@ use Rattle.syntax.specs.Encoder.{encode}
 -- one node with a truth as input and a truth as output, which is not the input
 abbrev pub inverter : BlockSyntax
 inverter = record {
-  inputs = 1; outputs = 1; locals = 0;
+  inputs = 1;
+  outputs = 1;
+  locals = 0;
   flows = record { kind = Truth; clock = 0 } ∷ record { kind = Truth; clock = 0 } ∷ [];
   clocks = [];
   equations = record { clock = 0; form = plain 1 (Flow 0 ∷ Unary Not ∷ []) } ∷ [];
