@@ -1,6 +1,5 @@
 ghost use mathlib.Core.Path.{_≡_};
 ghost use lib.Chars.{codes};
-ghost use lib.ListN.{take};
 ghost use Rattle.std.specs.Of.String.{string-bytes};
 ghost use Rattle.std.specs.Vec.{made};
 ghost use Rattle.syntax.specs.Faults.{fault-of-read};
@@ -8,6 +7,7 @@ ghost use Rattle.script.specs.Outcomes.{stage-name, refusal-text, read-text, w
 use crate::fault::LineFault;
 use crate::fault::LineFaultDisplay;
 use crate::hex::hex_of_bytes;
+use layout::parts::front;
 use std::alloc::AllocError;
 use std::alloc::Global;
 use syntax::fault::Fault;
@@ -62,13 +62,6 @@ fn written(heap: Global, bytes: &[u8]) -> Result<String, AllocError>
     let count = bytes.len();
     let hex = hex_of_bytes(heap, bytes)?;
     format!(heap, "write {count} {hex}")
-}
-
-// The first `n` bytes, or all where there are no more.
-fn front(bytes: &[u8], n: usize) -> &[u8]
-    ensures { λ r. ⌜ now r ≡ take n (now (bytes .entry)) ⌝ }
-{
-    if n < bytes.len() { &bytes[0..n] } else { bytes }
 }
 
 // `answer` says how many bytes of `out` were written.
