@@ -1,0 +1,4 @@
+pub mod Quotients
+pub mod Wrapping
+pub mod Holding
+pub mod Sameness
