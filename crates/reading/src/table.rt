@@ -14,7 +14,7 @@ const MOST_CELLS: usize = 4096;
 const MOST_BYTES: usize = 2048;
 
 // Blanks the rows.
-pub fn clear(table: &mut Table<'_>)
+fn clear(table: &mut Table<'_>)
     requires { ⌜ PastBlank (now table) ⌝ }
     ensures blank { λ _. ⌜ Holds (now (table .exit)) [] ⌝ }
     ensures long { λ _. ⌜ length (now (now (table .exit) .store .cells)) ≡ length (now (now (table .entry) .store .cells)) ⌝ }
