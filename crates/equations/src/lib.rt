@@ -1,4 +1,5 @@
 // What shape, kinds and clocks ask of an equation.
+#![tactic(auto)]
 pub mod clocked;
 pub mod kinded;
 pub mod shaped;

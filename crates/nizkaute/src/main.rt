@@ -1,4 +1,6 @@
 // Plays a script from a file or from standard input, and prints a line for each call.
+#![tactic(auto)]
+
 ghost use Rattle.std.specs.Prelude.{◌<◌, length, IfOk};
 
 use block::rows::Rows;

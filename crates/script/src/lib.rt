@@ -1,4 +1,5 @@
 // Scripts: their words, what a line asks for, and the lines that answer it.
+#![tactic(auto)]
 pub mod answer;
 pub mod command;
 pub mod fault;

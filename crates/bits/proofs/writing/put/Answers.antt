@@ -7,7 +7,7 @@ pub loop-k-init : goal.loop-k-init
 loop-k-init c = putting_none
 
 pub loop-k-preserved : goal.loop-k-preserved
-loop-k-preserved c = rw c.put-after.ensures (putting_more c.loop-k.invariant c.loop-k-test.true)
+loop-k-preserved c = rw c.put_after.ensures (putting_more c.loop-k.invariant c.loop-k-test.true)
 
 pub returns : goal.returns
 returns c = record {
