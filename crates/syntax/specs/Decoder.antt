@@ -1,5 +1,5 @@
 -- The format of a block, field by field, as a decoder over the list of its bits.
-use Rattle.std.specs.Prelude.{◌≡◌, ℕ, ◌+◌, Bool, cond, ◌&&◌, List, length, drop, Ok, Err, Result, ◌==◌, nat_le, nat_lt}
+use Rattle.std.specs.Prelude.{ℕ, ◌+◌, Bool, cond, ◌&&◌, List, length, drop, Ok, Err, Result, ◌==◌, nat_le, nat_lt}
 use Rattle.std.proofs.Common.{to_z}
 use Rattle.std.specs.Int.{w32}
 use Rattle.syntax.specs.declared.cell.Cell.{Cell}

@@ -1,5 +1,5 @@
 -- The format of a block as the list of its fields, and the bytes that they fill.
-use Rattle.std.specs.Prelude.{ℕ, ◌+◌, ◌-◌, List, [], ◌∷◌, ◌++◌, length}
+use Rattle.std.specs.Prelude.{ℕ, ◌-◌, List, [], ◌∷◌, ◌++◌, length}
 use mir.Val.{of_z, bool_byte}
 use Rattle.std.specs.Int.{w32}
 use Rattle.syntax.specs.declared.cell.Cell.{Cell}

@@ -1,6 +1,5 @@
 -- What a refusal tells: number, stage and two places, for every case.
 use Rattle.syntax.specs.declared.fault.Fault.{Fault}
-use Rattle.syntax.specs.declared.fault.Stage.{Stage}
 use Rattle.syntax.specs.declared.fault.Stage.TheVariants.{Reading, Running}
 use Rattle.syntax.specs.declared.fault.ReadFault.{ReadFault}
 use Rattle.syntax.specs.declared.fault.ReadFault.TheVariants.{TooFewCells, BlockLength, Ends, NoMeaning, Filling}
