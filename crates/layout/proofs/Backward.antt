@@ -1,19 +1,18 @@
 -- Rows that hold a block stand for it.
-use Rattle.std.proofs.Common.{◌≡◌, ℕ, ◌+◌, ◌-◌, ◌<◌, ◌≤◌, ◌⊎◌, List, [], ◌∷◌, ◌++◌, map, length, get_or, take, drop, replicate, sym, refl, ap, ◌∙◌, inl, inr, ⊎_elim, zero-add, arith, length-append, length-drop}
+use Rattle.std.proofs.Common.{◌≡◌, ℕ, ◌+◌, ◌≤◌, List, [], ◌∷◌, ◌++◌, map, length, get_or, take, drop, replicate, sym, refl, ap, ◌∙◌, zero-add, arith}
 use lib.ListN.{length-replicate}
-use Rattle.std.proofs.lemmas.List.{take_at, take-append-le, get_or-take, get_or-drop, length-take-le, drop-drop}
+use Rattle.std.proofs.lemmas.List.{get_or-take, length-take-le, drop-drop}
 use Rattle.syntax.specs.declared.cell.Cell.{Cell}
 use Rattle.syntax.specs.Syntax.{Expression, FormSyntax, EquationSyntax, NodeSyntax, BlockSyntax, plain, delay, call}
 use Rattle.syntax.specs.Encoder.{joined}
-use Rattle.syntax.specs.Laws.{All, Counted, FormFits, EquationFits, NodeFits, Encodable}
-use Rattle.bits.specs.Overwriting.{written}
+use Rattle.syntax.specs.Laws.{All, FormFits, EquationFits, NodeFits}
 use Rattle.bits.proofs.Lists.{list_ext}
 use Rattle.bits.proofs.Written.{written_at, length-written}
 use Rattle.layout.specs.declared.table.Table.{Table}
 use Rattle.layout.specs.Blanks.{blank_cell, blank_flow, blank_clock, blank_span, blank_equation, blank_node}
 use Rattle.layout.specs.Layout.{whole, form_cells, equation_cells, node_cells, block_cells, padded, rows_from, span_row, form_row, equation_row, node_row, expression_in, form_in, equation_in, node_in}
 use Rattle.layout.specs.Held.{Holds, block_in}
-use Rattle.layout.proofs.Lists.{joined_none, joined_more, length_rows}
+use Rattle.layout.proofs.Lists.{length_rows}
 
 -- the first of padded rows are what was padded
 pub padded_front : {A : Type 0} (n : ℕ) (d : A) (xs : List A) → length xs ≤ n → take (length xs) (padded n d xs) ≡ xs

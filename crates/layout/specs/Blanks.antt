@@ -1,12 +1,11 @@
 -- What stands in rows where nothing was read.
-use Rattle.std.specs.Prelude.{ℕ, Bool, true, false, replicate}
+use Rattle.std.specs.Prelude.{false, replicate}
 use Rattle.syntax.specs.declared.cell.Cell.{Cell}
 use Rattle.syntax.specs.declared.cell.Cell.TheVariants.{Flow}
 use Rattle.syntax.specs.declared.header.Kind.TheVariants.{Truth}
 use Rattle.syntax.specs.declared.header.Flow as flow
 use Rattle.syntax.specs.declared.header.DerivedClock.{DerivedClock}
 use Rattle.layout.specs.declared.node.Span.{Span}
-use Rattle.layout.specs.declared.node.Form.{Form}
 use Rattle.layout.specs.declared.node.Form.TheVariants.{Plain}
 use Rattle.layout.specs.declared.node.Equation.{Equation}
 use Rattle.layout.specs.declared.node.Node.{Node}

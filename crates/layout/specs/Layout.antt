@@ -1,5 +1,5 @@
 -- The rows that hold a block, and the block that rows stand for.
-use Rattle.std.specs.Prelude.{ℕ, ◌+◌, List, [], ◌∷◌, map, length, get_or, take, drop, replicate}
+use Rattle.std.specs.Prelude.{ℕ, ◌+◌, List, [], ◌∷◌, map, length, take, drop, replicate}
 use Rattle.syntax.specs.declared.cell.Cell.{Cell}
 use Rattle.syntax.specs.Syntax.{Expression, FormSyntax, EquationSyntax, NodeSyntax, BlockSyntax, plain, delay, call}
 use Rattle.syntax.specs.Encoder.{joined}
@@ -12,7 +12,7 @@ use Rattle.layout.specs.declared.node.Form.TheVariants.{Plain, Delay, Call}
 use Rattle.layout.specs.declared.node.Equation.{Equation}
 use Rattle.layout.specs.declared.node.Equations.{Equations}
 use Rattle.layout.specs.declared.node.Node.{Node}
-use Rattle.layout.specs.Blanks.{blank_cell, blank_flow, blank_clock, blank_span, blank_equation, blank_node}
+use Rattle.layout.specs.Blanks.{blank_flow, blank_clock, blank_span, blank_equation}
 
 -- the cells of a form, an equation, a node and a block, in the order in which they are read
 abbrev pub whole : Expression → List Cell
