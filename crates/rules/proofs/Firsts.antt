@@ -1,5 +1,5 @@
 -- The first place where a predicate fails.
-use Rattle.std.proofs.Common.{◌≡◌, List, [], ◌∷◌, ◌++◌, map, Some, None, Option, Result, sym, refl, ap, ◌∙◌}
+use Rattle.std.proofs.Common.{◌≡◌, List, ◌∷◌, ◌++◌, map, Some, None, Option, Result, sym, refl, ap, ◌∙◌}
 use Rattle.rules.specs.declared.fault.ExamineFault.{ExamineFault}
 use Rattle.syntax.specs.Syntax.{BlockSyntax}
 use Rattle.rules.specs.Examined.{First, none, fails, holds, Examined, answer_of}

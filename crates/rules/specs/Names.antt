@@ -3,7 +3,6 @@ use Rattle.std.specs.Prelude.{ℕ, zero, suc, ◌-◌, cond, List, [], ◌∷◌
 use Rattle.syntax.specs.declared.cell.Cell.{Cell}
 use Rattle.syntax.specs.declared.cell.Cell.TheVariants.{Flow, Truth, Number, Unary, Binary, When, Merge, If}
 use Rattle.syntax.specs.declared.header.Kind.{Kind}
-use Rattle.syntax.specs.declared.header.Flow as flow
 use Rattle.syntax.specs.declared.header.DerivedClock.{DerivedClock}
 use Rattle.syntax.specs.Syntax.{FormSyntax, EquationSyntax, NodeSyntax, BlockSyntax, plain, delay, call}
 use Rattle.layout.specs.Blanks.{blank_flow, blank_clock}

@@ -1,5 +1,5 @@
 -- Fields written one after another.
-use Rattle.std.proofs.Common.{◌≡◌, ℕ, ◌+◌, ◌-◌, ◌<◌, ◌≤◌, List, [], ◌∷◌, ◌++◌, map, length, get_or, take, drop, sym, refl, ap, ◌∙◌, subst, add-zero, add_assoc, zero-add, arith}
+use Rattle.std.proofs.Common.{◌≡◌, ℕ, ◌+◌, ◌-◌, ◌<◌, ◌≤◌, List, [], ◌∷◌, ◌++◌, map, length, get_or, drop, sym, refl, ap, ◌∙◌, subst, add-zero, add_assoc, zero-add, arith}
 use lib.ListN.{length-map}
 use Rattle.std.proofs.lemmas.List.{drop_all, drop_more}
 use Rattle.bits.specs.Bits.{digits}

@@ -1,8 +1,8 @@
 -- A whole block is written.
-use Rattle.std.proofs.Common.{◌≡◌, ℕ, ◌+◌, ◌-◌, ◌*◌, ◌/◌, ◌<◌, ◌≤◌, Bool, true, false, List, [], ◌∷◌, ◌++◌, map, length, get_or, take, drop, replicate, is_ok, Ok, Err, Result, sym, refl, ap, ◌∙◌, subst, ⊎_elim, append-nil, zero-add, arith, length-append, length-drop}
+use Rattle.std.proofs.Common.{◌≡◌, ℕ, ◌+◌, ◌-◌, ◌/◌, ◌<◌, ◌≤◌, true, List, [], ◌∷◌, ◌++◌, map, length, get_or, take, drop, replicate, is_ok, Ok, Err, Result, sym, refl, ap, ◌∙◌, subst, ⊎_elim, zero-add, arith, length-append, length-drop}
 use lib.ListN.{length-replicate, length-map, get_or-replicate}
 use Rattle.std.proofs.lemmas.List.{get_or_append_left, get_or-append_right, get_or-drop}
-use Rattle.std.proofs.lemmas.Bool.{cases_lt, le-leb, lt-leb}
+use Rattle.std.proofs.lemmas.Bool.{cases_lt, le-leb}
 use Rattle.bits.specs.Bits.{digits, bytes_of}
 use Rattle.bits.specs.Overwriting.{set_bits}
 use Rattle.bits.proofs.BitLists.{length_digits}
@@ -11,7 +11,7 @@ use Rattle.bits.proofs.Lists.{list_ext}
 use Rattle.bits.proofs.SetBits.{set_bits_none, set_bits-append}
 use Rattle.syntax.specs.declared.cell.Cell.{Cell}
 use Rattle.syntax.specs.declared.fault.ReadFault.{ReadFault}
-use Rattle.syntax.specs.Syntax.{BlockSyntax, NodeSyntax}
+use Rattle.syntax.specs.Syntax.{BlockSyntax}
 use Rattle.syntax.specs.Decoder.{decode}
 use Rattle.syntax.specs.Encoder.{Field, joined, fields_bits, node_fields, block_fields, encode}
 use Rattle.syntax.proofs.Sizes.{decode_gave}
@@ -20,7 +20,7 @@ use Rattle.layout.specs.declared.node.Node.{Node}
 use Rattle.layout.specs.Layout.{node_in}
 use Rattle.layout.specs.declared.table.Table.{Table}
 use Rattle.layout.specs.Held.{readable, block_in, write_answer, write_bytes}
-use Rattle.writing.specs.Writing.{size, put_fields, Room, Wrote}
+use Rattle.writing.specs.Writing.{size, put_fields, Wrote}
 use Rattle.layout.proofs.Blanking.{Blanked}
 use Rattle.layout.proofs.Lists.{joined_none, joined_more}
 use Rattle.writing.proofs.Puts.{joined-map, wrote_by}

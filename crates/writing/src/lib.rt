@@ -1,5 +1,6 @@
 // Rows are written back as bytes, field by field.
 #![tactic(auto)]
+
 mod equations;
 mod fields;
 mod items;

@@ -10,112 +10,112 @@ use Rattle.reading.specs.Storing.{ended}
 use Rattle.reading.proofs.Gathering.{many-counts}
 use Rattle.reading.proofs.Loading.{of_bytes, few_cells, no_bytes, many_bytes, stops_at_mark, stops_at_count, stops_at_nodes, stops_at_end, reads_all, none_used, none_cells, none_nodes, past_none, holds_loaded}
 use Rattle.reading.proofs.table.fill.Goals as goal
-use Rattle.reading.proofs.table.fill.Goals.{then-is-empty-via-then-is-empty, then-is-empty-via-else-is-empty+then-bytes-gt-MOST-BYTES}
+use Rattle.reading.proofs.table.fill.Goals.{then-is_empty-via-then-is_empty, then-is_empty-via-else-is_empty+then-bytes-gt-MOST_BYTES}
 
-pub returns-then-table-lt-MOST-CELLS : goal.returns-then-table-lt-MOST-CELLS
-returns-then-table-lt-MOST-CELLS c = record {
-  loads = few_cells (length c.args.table.now.store.cells.now) c.args.bytes.now c.if-table-lt-MOST-CELLS.true;
+pub returns-then-table-lt-MOST_CELLS : goal.returns-then-table-lt-MOST_CELLS
+returns-then-table-lt-MOST_CELLS c = record {
+  loads = few_cells (length c.args.table.now.store.cells.now) c.args.bytes.now c.if-table-lt-MOST_CELLS.true;
   past = λ i h. none_cells c.args.table.now c.requires i;
   long = refl;
 }
 
-pub returns-then-is-empty : goal.returns-then-is-empty
-returns-then-is-empty c =
+pub returns-then-is_empty : goal.returns-then-is_empty
+returns-then-is_empty c =
     let bs = c.args.bytes.now in
     let n = length c.args.table.now.store.cells.now in
     record {
       loads =
-          elim c.then-is-empty.branch [
-            | then-is-empty-via-then-is-empty w ↦ no_bytes n bs c.if-table-lt-MOST-CELLS.false (eqb-true (length bs) 0 (sym c.is-empty.ensures ∙ w.if-is-empty.true))
-            | then-is-empty-via-else-is-empty+then-bytes-gt-MOST-BYTES w ↦ many_bytes n bs c.if-table-lt-MOST-CELLS.false w.if-bytes-gt-MOST-BYTES.true
+          elim c.then-is_empty.branch [
+            | then-is_empty-via-then-is_empty w ↦ no_bytes n bs c.if-table-lt-MOST_CELLS.false (eqb-true (length bs) 0 (sym c.is_empty.ensures ∙ w.if-is_empty.true))
+            | then-is_empty-via-else-is_empty+then-bytes-gt-MOST_BYTES w ↦ many_bytes n bs c.if-table-lt-MOST_CELLS.false w.if-bytes-gt-MOST_BYTES.true
           ];
       past = λ i h. none_cells c.args.table.now c.requires i;
       long = refl;
     }
 
-pub returns-in-err-mark : goal.returns-in-err-mark
-returns-in-err-mark c =
+pub returns-in_err-mark : goal.returns-in_err-mark
+returns-in_err-mark c =
     let t = c.args.table.now in
     let bs = c.args.bytes.now in
     let n = length t.store.cells.now in
-    let wide : 4096 ≤ n = c.if-table-lt-MOST-CELLS.false in
-    let least : 1 ≤ length bs = omega (arith, eqb-false (length bs) 0 (sym c.if-is-empty.ensures)) in
-    let most : length bs ≤ 2048 = c.if-bytes-gt-MOST-BYTES.false in
+    let wide : 4096 ≤ n = c.if-table-lt-MOST_CELLS.false in
+    let least : 1 ≤ length bs = omega (arith, eqb-false (length bs) 0 (sym c.if-is_empty.ensures)) in
+    let most : length bs ≤ 2048 = c.if-bytes-gt-MOST_BYTES.false in
     let b0 = c.new-reader.ensures.bytes in
-    let a = c.in-err-mark.ensures in
+    let a = c.in_err-mark.ensures in
     let m = ap (λ k. read_mark (bits_of bs) k) (sym c.new-reader.ensures.at) ∙ of_bytes read_mark c.new-reader.result bs _ b0 a.reads in
-    let p = err_from_is_err_and c.from-residual.result c.from-residual.ensures.1 in
+    let p = err_from_is_err_and c.from_residual.result c.from_residual.ensures.1 in
     record { loads = rw (p.1, p.2) (stops_at_mark n bs wide least most _ m); past = λ i h. none_cells t c.requires i; long = refl }
 
-pub returns-in-err-count : goal.returns-in-err-count
-returns-in-err-count c =
+pub returns-in_err-count : goal.returns-in_err-count
+returns-in_err-count c =
     let t = c.args.table.now in
     let bs = c.args.bytes.now in
     let n = length t.store.cells.now in
-    let wide : 4096 ≤ n = c.if-table-lt-MOST-CELLS.false in
-    let least : 1 ≤ length bs = omega (arith, eqb-false (length bs) 0 (sym c.if-is-empty.ensures)) in
-    let most : length bs ≤ 2048 = c.if-bytes-gt-MOST-BYTES.false in
+    let wide : 4096 ≤ n = c.if-table-lt-MOST_CELLS.false in
+    let least : 1 ≤ length bs = omega (arith, eqb-false (length bs) 0 (sym c.if-is_empty.ensures)) in
+    let most : length bs ≤ 2048 = c.if-bytes-gt-MOST_BYTES.false in
     let b0 = c.new-reader.ensures.bytes in
-    let a = c.in-ok-mark.ensures in
+    let a = c.in_ok-mark.ensures in
     let m = ap (λ k. read_mark (bits_of bs) k) (sym c.new-reader.ensures.at) ∙ of_bytes read_mark c.new-reader.result bs _ b0 a.reads in
     let b1 = a.moved.bytes ∙ b0 in
-    let d = c.in-err-count.ensures in
+    let d = c.in_err-count.ensures in
     let k = of_bytes (field 3) c.mark.new.self bs _ b1 d.reads in
-    let p = err_from_is_err_and c.from-residual-in-err-count.result c.from-residual-in-err-count.ensures.1 in
+    let p = err_from_is_err_and c.from_residual-in_err-count.result c.from_residual-in_err-count.ensures.1 in
     record { loads = rw (p.1, p.2) (stops_at_count n bs wide least most _ _ m _ k); past = λ i h. none_cells t c.requires i; long = refl }
 
 pub nodes-requires : goal.nodes-requires
 nodes-requires c =
     let t = c.args.table.now in
     record {
-      room = record { taken = omega (arith, none_used t c.requires); wide = c.if-table-lt-MOST-CELLS.false };
-      fits = omega (arith, ap length (none_nodes t c.requires) ∙ length-replicate 8 blank_node, c.from.ensures, c.in-ok-count.ensures.bound);
+      room = record { taken = omega (arith, none_used t c.requires); wide = c.if-table-lt-MOST_CELLS.false };
+      fits = omega (arith, ap length (none_nodes t c.requires) ∙ length-replicate 8 blank_node, c.from.ensures, c.in_ok-count.ensures.bound);
     }
 
-pub returns-in-err-nodes : goal.returns-in-err-nodes
-returns-in-err-nodes c =
+pub returns-in_err-nodes : goal.returns-in_err-nodes
+returns-in_err-nodes c =
     let t = c.args.table.now in
     let bs = c.args.bytes.now in
     let n = length t.store.cells.now in
-    let wide : 4096 ≤ n = c.if-table-lt-MOST-CELLS.false in
-    let least : 1 ≤ length bs = omega (arith, eqb-false (length bs) 0 (sym c.if-is-empty.ensures)) in
-    let most : length bs ≤ 2048 = c.if-bytes-gt-MOST-BYTES.false in
+    let wide : 4096 ≤ n = c.if-table-lt-MOST_CELLS.false in
+    let least : 1 ≤ length bs = omega (arith, eqb-false (length bs) 0 (sym c.if-is_empty.ensures)) in
+    let most : length bs ≤ 2048 = c.if-bytes-gt-MOST_BYTES.false in
     let b0 = c.new-reader.ensures.bytes in
-    let a = c.in-ok-mark.ensures in
+    let a = c.in_ok-mark.ensures in
     let m = ap (λ k. read_mark (bits_of bs) k) (sym c.new-reader.ensures.at) ∙ of_bytes read_mark c.new-reader.result bs _ b0 a.reads in
     let b1 = a.moved.bytes ∙ b0 in
-    let d = c.in-ok-count.ensures in
+    let d = c.in_ok-count.ensures in
     let k = of_bytes (field 3) c.mark.new.self bs _ b1 d.reads in
     let b2 = d.moved.bytes ∙ b1 in
-    let f = c.in-err-nodes.ensures in
+    let f = c.in_err-nodes.ensures in
     let g = ap (λ j. many read_node j (bits_of bs) c.take.new.self.at) (sym c.from.ensures) ∙ of_bytes (many read_node c.from.result) c.take.new.self bs _ b2 f.reads in
-    let p = err_from_is_err_and c.from-residual-in-err-nodes.result c.from-residual-in-err-nodes.ensures.1 in
+    let p = err_from_is_err_and c.from_residual-in_err-nodes.result c.from_residual-in_err-nodes.ensures.1 in
     record {
       loads = rw (p.1, p.2) (stops_at_nodes n bs wide least most _ _ m _ _ k _ g);
       past = past_none t c.requires _ f.grown;
       long = f.grown.long;
     }
 
-pub returns-in-err-filling : goal.returns-in-err-filling
-returns-in-err-filling c =
+pub returns-in_err-filling : goal.returns-in_err-filling
+returns-in_err-filling c =
     let t = c.args.table.now in
     let bs = c.args.bytes.now in
     let n = length t.store.cells.now in
-    let wide : 4096 ≤ n = c.if-table-lt-MOST-CELLS.false in
-    let least : 1 ≤ length bs = omega (arith, eqb-false (length bs) 0 (sym c.if-is-empty.ensures)) in
-    let most : length bs ≤ 2048 = c.if-bytes-gt-MOST-BYTES.false in
+    let wide : 4096 ≤ n = c.if-table-lt-MOST_CELLS.false in
+    let least : 1 ≤ length bs = omega (arith, eqb-false (length bs) 0 (sym c.if-is_empty.ensures)) in
+    let most : length bs ≤ 2048 = c.if-bytes-gt-MOST_BYTES.false in
     let b0 = c.new-reader.ensures.bytes in
-    let a = c.in-ok-mark.ensures in
+    let a = c.in_ok-mark.ensures in
     let m = ap (λ k. read_mark (bits_of bs) k) (sym c.new-reader.ensures.at) ∙ of_bytes read_mark c.new-reader.result bs _ b0 a.reads in
     let b1 = a.moved.bytes ∙ b0 in
-    let d = c.in-ok-count.ensures in
+    let d = c.in_ok-count.ensures in
     let k = of_bytes (field 3) c.mark.new.self bs _ b1 d.reads in
     let b2 = d.moved.bytes ∙ b1 in
-    let f = c.in-ok-nodes.ensures in
+    let f = c.in_ok-nodes.ensures in
     let g = ap (λ j. many read_node j (bits_of bs) c.take.new.self.at) (sym c.from.ensures) ∙ of_bytes (many read_node c.from.result) c.take.new.self bs _ b2 f.reads.reads in
     let b3 = f.moved.bytes ∙ b2 in
-    let e = ap (λ bytes. ended (bits_of bytes) c.nodes.new.self.at) (sym b3) ∙ sym c.in-err-filling.ensures in
-    let p = err_from_is_err_and c.from-residual-in-err-filling.result c.from-residual-in-err-filling.ensures.1 in
+    let e = ap (λ bytes. ended (bits_of bytes) c.nodes.new.self.at) (sym b3) ∙ sym c.in_err-filling.ensures in
+    let p = err_from_is_err_and c.from_residual-in_err-filling.result c.from_residual-in_err-filling.ensures.1 in
     record {
       loads = rw (p.1, p.2) (stops_at_end n bs wide least most _ _ m _ _ k _ _ _ g e);
       past = past_none t c.requires _ f.grown;
@@ -127,20 +127,20 @@ returns c =
     let t = c.args.table.now in
     let bs = c.args.bytes.now in
     let n = length t.store.cells.now in
-    let wide : 4096 ≤ n = c.if-table-lt-MOST-CELLS.false in
-    let least : 1 ≤ length bs = omega (arith, eqb-false (length bs) 0 (sym c.if-is-empty.ensures)) in
-    let most : length bs ≤ 2048 = c.if-bytes-gt-MOST-BYTES.false in
+    let wide : 4096 ≤ n = c.if-table-lt-MOST_CELLS.false in
+    let least : 1 ≤ length bs = omega (arith, eqb-false (length bs) 0 (sym c.if-is_empty.ensures)) in
+    let most : length bs ≤ 2048 = c.if-bytes-gt-MOST_BYTES.false in
     let b0 = c.new-reader.ensures.bytes in
-    let a = c.in-ok-mark.ensures in
+    let a = c.in_ok-mark.ensures in
     let m = ap (λ k. read_mark (bits_of bs) k) (sym c.new-reader.ensures.at) ∙ of_bytes read_mark c.new-reader.result bs _ b0 a.reads in
     let b1 = a.moved.bytes ∙ b0 in
-    let d = c.in-ok-count.ensures in
+    let d = c.in_ok-count.ensures in
     let k = of_bytes (field 3) c.mark.new.self bs _ b1 d.reads in
     let b2 = d.moved.bytes ∙ b1 in
-    let f = c.in-ok-nodes.ensures in
+    let f = c.in_ok-nodes.ensures in
     let g = ap (λ j. many read_node j (bits_of bs) c.take.new.self.at) (sym c.from.ensures) ∙ of_bytes (many read_node c.from.result) c.take.new.self bs _ b2 f.reads.reads in
     let b3 = f.moved.bytes ∙ b2 in
-    let e = ap (λ bytes. ended (bits_of bytes) c.nodes.new.self.at) (sym b3) ∙ sym c.in-ok-filling.ensures in
+    let e = ap (λ bytes. ended (bits_of bytes) c.nodes.new.self.at) (sym b3) ∙ sym c.in_ok-filling.ensures in
     let s = many-counts read_node _ _ _ f.reads.items _ f.reads.reads ∙ c.from.ensures in
     record {
       loads = record {

@@ -1,4 +1,4 @@
-use Rattle.std.proofs.Common.{refl, rules}
+use Rattle.std.proofs.Common.{refl}
 use Rattle.rules.proofs.Everies.{left_more, left_stops, left_all}
 use Rattle.rules.proofs.every.all_of.Goals as goal
 

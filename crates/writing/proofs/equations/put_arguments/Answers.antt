@@ -1,6 +1,6 @@
 use Rattle.std.proofs.Common.{◌≡◌, ℕ, ◌-◌, List, [], ◌∷◌, length, take, sym, ap, ◌∙◌}
 use Rattle.syntax.specs.declared.cell.Cell.{Cell}
-use Rattle.syntax.specs.Encoder.{Field, joined, expression_fields, arguments_fields}
+use Rattle.syntax.specs.Encoder.{joined, expression_fields, arguments_fields}
 use Rattle.layout.specs.declared.node.Span.{Span}
 use Rattle.layout.specs.declared.node.Arguments.{Arguments}
 use Rattle.layout.specs.Layout.{expression_in, arguments_in}
@@ -14,12 +14,12 @@ by-spans cells es spans n p e =
     ∙ ap (λ ss. (3, length ss - 1) ∷ joined (λ s. expression_fields (expression_in cells s)) ss) (sym p)
     ∙ ap (λ k. (3, k) ∷ joined (λ s. expression_fields (expression_in cells s)) spans) (sym e)
 
-pub put-expressions-requires : goal.put-expressions-requires
-put-expressions-requires c =
-    let q = by-spans c.args.cells.now c.args.arguments.now c.counted-spans.result.now c.less-one.result c.counted-spans.ensures.part c.less-one.ensures in
-    record { room = room_then ((3, c.less-one.result) ∷ []) (joined (λ s. expression_fields (expression_in c.args.cells.now s)) c.counted-spans.result.now) (room_by q c.requires.room) c.put-field-at.ensures }
+pub put_expressions-requires : goal.put_expressions-requires
+put_expressions-requires c =
+    let q = by-spans c.args.cells.now c.args.arguments.now c.counted-spans.result.now c.less_one.result c.counted-spans.ensures.part c.less_one.ensures in
+    record { room = room_then ((3, c.less_one.result) ∷ []) (joined (λ s. expression_fields (expression_in c.args.cells.now s)) c.counted-spans.result.now) (room_by q c.requires.room) c.put_field-at.ensures }
 
 pub returns : goal.returns
 returns c =
-    let q = by-spans c.args.cells.now c.args.arguments.now c.counted-spans.result.now c.less-one.result c.counted-spans.ensures.part c.less-one.ensures in
-    wrote_by (sym q) (wrote_both ((3, c.less-one.result) ∷ []) (joined (λ s. expression_fields (expression_in c.args.cells.now s)) c.counted-spans.result.now) c.put-field-at.ensures c.put-expressions.ensures)
+    let q = by-spans c.args.cells.now c.args.arguments.now c.counted-spans.result.now c.less_one.result c.counted-spans.ensures.part c.less_one.ensures in
+    wrote_by (sym q) (wrote_both ((3, c.less_one.result) ∷ []) (joined (λ s. expression_fields (expression_in c.args.cells.now s)) c.counted-spans.result.now) c.put_field-at.ensures c.put_expressions.ensures)

@@ -5,11 +5,11 @@ use Rattle.writing.proofs.equations.put_equations.Goals as goal
 pub loop-row-init : goal.loop-row-init
 loop-row-init c = writing_none _ _ _ _
 
-pub put-equation-at-requires : goal.put-equation-at-requires
-put-equation-at-requires c = record { room = writing_room c.loop-row.invariant _ c.loop-row-test.true c.requires.room }
+pub put_equation-at-requires : goal.put_equation-at-requires
+put_equation-at-requires c = record { room = writing_room c.loop-row.invariant _ c.loop-row-test.true c.requires.room }
 
 pub loop-row-preserved : goal.loop-row-preserved
-loop-row-preserved c = writing_more c.loop-row.invariant _ c.loop-row-test.true c.put-equation-at.ensures
+loop-row-preserved c = writing_more c.loop-row.invariant _ c.loop-row-test.true c.put_equation-at.ensures
 
 pub returns : goal.returns
 returns c = writing_all c.loop-row.invariant (omega arith)

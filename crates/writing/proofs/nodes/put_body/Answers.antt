@@ -11,20 +11,20 @@ by_rows : (cells : List Cell) (es : Equations) (rows : List Equation) → rows �
 by_rows cells es rows p =
     equations_by_rows cells (take es.count es.rows) ∙ ap (λ rs. (5, length rs) ∷ joined (λ e. equation_fields (equation_in cells e)) rs) (sym p)
 
-pub put-field-at-requires : goal.put-field-at-requires
-put-field-at-requires c =
+pub put_field-at-requires : goal.put_field-at-requires
+put_field-at-requires c =
     let rows = c.counted-rows.result.now in
     let q = by_rows c.args.cells.now c.args.equations.now rows c.counted-rows.ensures.part in
     record { narrow = omega arith; room = room_first ((5, length rows) ∷ []) (joined (λ e. equation_fields (equation_in c.args.cells.now e)) rows) (room_by q c.requires.room) }
 
-pub put-equations-requires : goal.put-equations-requires
-put-equations-requires c =
+pub put_equations-requires : goal.put_equations-requires
+put_equations-requires c =
     let rows = c.counted-rows.result.now in
     let q = by_rows c.args.cells.now c.args.equations.now rows c.counted-rows.ensures.part in
-    record { room = room_then ((5, length rows) ∷ []) (joined (λ e. equation_fields (equation_in c.args.cells.now e)) rows) (room_by q c.requires.room) c.put-field-at.ensures }
+    record { room = room_then ((5, length rows) ∷ []) (joined (λ e. equation_fields (equation_in c.args.cells.now e)) rows) (room_by q c.requires.room) c.put_field-at.ensures }
 
 pub returns : goal.returns
 returns c =
     let rows = c.counted-rows.result.now in
     let q = by_rows c.args.cells.now c.args.equations.now rows c.counted-rows.ensures.part in
-    wrote_by (sym q) (wrote_both ((5, length rows) ∷ []) (joined (λ e. equation_fields (equation_in c.args.cells.now e)) rows) c.put-field-at.ensures c.put-equations.ensures)
+    wrote_by (sym q) (wrote_both ((5, length rows) ∷ []) (joined (λ e. equation_fields (equation_in c.args.cells.now e)) rows) c.put_field-at.ensures c.put_equations.ensures)

@@ -5,11 +5,11 @@ use Rattle.writing.proofs.nodes.put_clocks.Goals as goal
 pub loop-row-init : goal.loop-row-init
 loop-row-init c = writing_none _ _ _ _
 
-pub put-clock-at-requires : goal.put-clock-at-requires
-put-clock-at-requires c = writing_room c.loop-row.invariant _ c.loop-row-test.true c.requires.room
+pub put_clock-at-requires : goal.put_clock-at-requires
+put_clock-at-requires c = writing_room c.loop-row.invariant _ c.loop-row-test.true c.requires.room
 
 pub loop-row-preserved : goal.loop-row-preserved
-loop-row-preserved c = writing_more c.loop-row.invariant _ c.loop-row-test.true c.put-clock-at.ensures
+loop-row-preserved c = writing_more c.loop-row.invariant _ c.loop-row-test.true c.put_clock-at.ensures
 
 pub returns : goal.returns
 returns c = writing_all c.loop-row.invariant (omega arith)

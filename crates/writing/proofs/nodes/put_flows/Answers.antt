@@ -5,11 +5,11 @@ use Rattle.writing.proofs.nodes.put_flows.Goals as goal
 pub loop-row-init : goal.loop-row-init
 loop-row-init c = writing_none _ _ _ _
 
-pub put-flow-at-requires : goal.put-flow-at-requires
-put-flow-at-requires c = writing_room c.loop-row.invariant _ c.loop-row-test.true c.requires.room
+pub put_flow-at-requires : goal.put_flow-at-requires
+put_flow-at-requires c = writing_room c.loop-row.invariant _ c.loop-row-test.true c.requires.room
 
 pub loop-row-preserved : goal.loop-row-preserved
-loop-row-preserved c = writing_more c.loop-row.invariant _ c.loop-row-test.true c.put-flow-at.ensures
+loop-row-preserved c = writing_more c.loop-row.invariant _ c.loop-row-test.true c.put_flow-at.ensures
 
 pub returns : goal.returns
 returns c = writing_all c.loop-row.invariant (omega arith)

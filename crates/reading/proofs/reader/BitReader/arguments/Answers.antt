@@ -9,22 +9,22 @@ use Rattle.reading.proofs.Gathering.{many-counts}
 use Rattle.reading.proofs.StoringLoops.{not_grown, grown_on, room_on}
 use Rattle.reading.proofs.reader.BitReader.arguments.Goals as goal
 
-pub returns-in-err-count : goal.returns-in-err-count
+pub returns-in_err-count : goal.returns-in_err-count
 unfolding read_arguments
-returns-in-err-count c =
-    let a = c.in-err-count.ensures in
-    let p = err_from_is_err_and c.from-residual.result c.from-residual.ensures.1 in
+returns-in_err-count c =
+    let a = c.in_err-count.ensures in
+    let p = err_from_is_err_and c.from_residual.result c.from_residual.ensures.1 in
     record { reads = rw (p.1, p.2, a.reads); moved = a.moved; grown = not_grown _; room = room_on _ _ _ c.requires.room a.moved }
 
 pub expressions-requires : goal.expressions-requires
-expressions-requires c = record { room = room_on _ _ _ c.requires.room c.in-ok-count.ensures.moved; fits = omega (arith, c.from.ensures, c.in-ok-count.ensures.bound) }
+expressions-requires c = record { room = room_on _ _ _ c.requires.room c.in_ok-count.ensures.moved; fits = omega (arith, c.from.ensures, c.in_ok-count.ensures.bound) }
 
-pub returns-in-err-expressions : goal.returns-in-err-expressions
+pub returns-in_err-expressions : goal.returns-in_err-expressions
 unfolding read_arguments
-returns-in-err-expressions c =
-    let a = c.in-ok-count.ensures in
-    let b = c.in-err-expressions.ensures in
-    let p = err_from_is_err_and c.from-residual-in-err-expressions.result c.from-residual-in-err-expressions.ensures.1 in
+returns-in_err-expressions c =
+    let a = c.in_ok-count.ensures in
+    let b = c.in_err-expressions.ensures in
+    let p = err_from_is_err_and c.from_residual-in_err-expressions.result c.from_residual-in_err-expressions.ensures.1 in
     record {
       reads = rw (p.1, p.2, a.reads, ← c.from.ensures) (as_before (many read_expression c.from.result) _ _ _ a.moved b.reads);
       moved = moved_on _ _ _ a.moved b.moved;
@@ -35,8 +35,8 @@ returns-in-err-expressions c =
 pub returns : goal.returns
 unfolding read_arguments
 returns c =
-    let a = c.in-ok-count.ensures in
-    let b = c.in-ok-expressions.ensures in
+    let a = c.in_ok-count.ensures in
+    let b = c.in_ok-expressions.ensures in
     let f = b.reads in
     let n = many-counts read_expression _ _ _ f.items _ f.reads ∙ c.from.ensures in
     record {

@@ -7,11 +7,11 @@ use Rattle.reading.proofs.reader.BitReader.cells.Goals as goal
 pub loop-k-init : goal.loop-k-init
 loop-k-init c = cells_none _ _ _ _ c.requires.room
 
-pub returns-in-err-cell : goal.returns-in-err-cell
-returns-in-err-cell c =
+pub returns-in_err-cell : goal.returns-in_err-cell
+returns-in_err-cell c =
     let f = c.loop-k.invariant in
-    let a = c.in-err-cell.ensures in
-    let p = err_from_is_err_and c.from-residual.result c.from-residual.ensures.1 in
+    let a = c.in_err-cell.ensures in
+    let p = err_from_is_err_and c.from_residual.result c.from_residual.ensures.1 in
     record {
       reads = rw (p.1, p.2) (cells_stops f c.loop-k-test.true _ a.reads);
       moved = moved_on _ _ _ f.moved a.moved;
@@ -22,13 +22,13 @@ returns-in-err-cell c =
 pub push-requires : goal.push-requires
 push-requires c =
     let f = c.loop-k.invariant.room in
-    let a = c.in-ok-cell.ensures.four in
+    let a = c.in_ok-cell.ensures.four in
     let s = c.cell.new.self in
     (omega (arith, f.taken, f.wide, a, s.within, s.short), omega (arith, f.taken, a, s.within, s.short))
 
 pub loop-k-preserved : goal.loop-k-preserved
 loop-k-preserved c =
-    let a = c.in-ok-cell.ensures in
+    let a = c.in_ok-cell.ensures in
     cells_more c.loop-k.invariant c.loop-k-test.true _ _ _ a.reads a.moved a.four c.push.ensures.cells c.push.ensures.used
 
 pub returns : goal.returns

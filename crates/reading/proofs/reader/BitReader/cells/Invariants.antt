@@ -3,4 +3,4 @@ use Rattle.reading.proofs.StoringLoops.{CellStoring}
 use Rattle.reading.proofs.reader.BitReader.cells.Given as goal
 
 abbrev pub invariant-loop-k : goal.invariant-loop-k
-invariant-loop-k l = CellStoring read_cell l.n l.initial.self l.initial.store l.-k l.self l.store
+invariant-loop-k l = CellStoring read_cell l.n l.initial.self l.initial.store l._k l.self l.store

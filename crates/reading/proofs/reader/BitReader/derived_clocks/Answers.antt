@@ -6,15 +6,15 @@ use Rattle.reading.proofs.reader.BitReader.derived_clocks.Goals as goal
 pub loop-k-init : goal.loop-k-init
 loop-k-init c = filling_none _ _ _ _
 
-pub returns-in-err-out : goal.returns-in-err-out
-returns-in-err-out c =
-    let a = c.in-err-out.ensures in
-    let p = err_from_is_err_and c.from-residual.result c.from-residual.ensures.1 in
+pub returns-in_err-out : goal.returns-in_err-out
+returns-in_err-out c =
+    let a = c.in_err-out.ensures in
+    let p = err_from_is_err_and c.from_residual.result c.from_residual.ensures.1 in
     record { fills = rw (p.1, p.2) (filling_stops c.loop-k.invariant c.loop-k-test.true _ a.reads); moved = moved_on _ _ _ c.loop-k.invariant.moved a.moved }
 
 pub loop-k-preserved : goal.loop-k-preserved
 loop-k-preserved c =
-    let a = c.in-ok-out.ensures in
+    let a = c.in_ok-out.ensures in
     filling_more c.loop-k.invariant c.loop-k-test.true _ _ a.reads a.moved
 
 pub returns : goal.returns

@@ -2,9 +2,9 @@ use Rattle.std.proofs.Common.{rules}
 use Rattle.syntax.specs.Decoder.{read_count}
 use Rattle.reading.proofs.reader.BitReader.equation_count.Goals as goal
 
-pub returns-in-err-n : goal.returns-in-err-n
+pub returns-in_err-n : goal.returns-in_err-n
 unfolding read_count
-returns-in-err-n c = search rules
+returns-in_err-n c = search rules
 
 pub returns-then-n-le23 : goal.returns-then-n-le23
 unfolding read_count

@@ -7,22 +7,22 @@ use Rattle.reading.proofs.Gathering.{many-counts}
 use Rattle.reading.proofs.StoringLoops.{not_grown, grown_on, room_on}
 use Rattle.reading.proofs.reader.BitReader.equations.Goals as goal
 
-pub returns-in-err-count : goal.returns-in-err-count
+pub returns-in_err-count : goal.returns-in_err-count
 unfolding read_equations
-returns-in-err-count c =
-    let a = c.in-err-count.ensures in
-    let p = err_from_is_err_and c.from-residual.result c.from-residual.ensures.1 in
+returns-in_err-count c =
+    let a = c.in_err-count.ensures in
+    let p = err_from_is_err_and c.from_residual.result c.from_residual.ensures.1 in
     record { reads = rw (p.1, p.2, a.reads); moved = a.moved; grown = not_grown _; room = room_on _ _ _ c.requires.room a.moved }
 
-pub equation-rows-requires : goal.equation-rows-requires
-equation-rows-requires c = record { room = room_on _ _ _ c.requires.room c.in-ok-count.ensures.moved; fits = omega (arith, c.from.ensures, c.in-ok-count.ensures.bound) }
+pub equation_rows-requires : goal.equation_rows-requires
+equation_rows-requires c = record { room = room_on _ _ _ c.requires.room c.in_ok-count.ensures.moved; fits = omega (arith, c.from.ensures, c.in_ok-count.ensures.bound) }
 
-pub returns-in-err-equation-rows : goal.returns-in-err-equation-rows
+pub returns-in_err-equation_rows : goal.returns-in_err-equation_rows
 unfolding read_equations
-returns-in-err-equation-rows c =
-    let a = c.in-ok-count.ensures in
-    let b = c.in-err-equation-rows.ensures in
-    let p = err_from_is_err_and c.from-residual-in-err-equation-rows.result c.from-residual-in-err-equation-rows.ensures.1 in
+returns-in_err-equation_rows c =
+    let a = c.in_ok-count.ensures in
+    let b = c.in_err-equation_rows.ensures in
+    let p = err_from_is_err_and c.from_residual-in_err-equation_rows.result c.from_residual-in_err-equation_rows.ensures.1 in
     record {
       reads = rw (p.1, p.2, a.reads, ← c.from.ensures) (as_before (many read_equation c.from.result) _ _ _ a.moved b.reads);
       moved = moved_on _ _ _ a.moved b.moved;
@@ -33,8 +33,8 @@ returns-in-err-equation-rows c =
 pub returns : goal.returns
 unfolding read_equations
 returns c =
-    let a = c.in-ok-count.ensures in
-    let b = c.in-ok-equation-rows.ensures in
+    let a = c.in_ok-count.ensures in
+    let b = c.in_ok-equation_rows.ensures in
     let f = b.reads in
     let n = many-counts read_equation _ _ _ f.items _ f.reads ∙ c.from.ensures in
     record {

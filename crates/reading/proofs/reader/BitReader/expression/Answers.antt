@@ -9,22 +9,22 @@ use Rattle.reading.proofs.Gathering.{many-counts}
 use Rattle.reading.proofs.StoringLoops.{not_grown, grown_on, room_on}
 use Rattle.reading.proofs.reader.BitReader.expression.Goals as goal
 
-pub returns-in-err-len : goal.returns-in-err-len
+pub returns-in_err-len : goal.returns-in_err-len
 unfolding read_expression
-returns-in-err-len c =
-    let a = c.in-err-len.ensures in
-    let p = err_from_is_err_and c.from-residual.result c.from-residual.ensures.1 in
+returns-in_err-len c =
+    let a = c.in_err-len.ensures in
+    let p = err_from_is_err_and c.from_residual.result c.from_residual.ensures.1 in
     record { reads = rw (p.1, p.2, a.reads); moved = a.moved; grown = not_grown _; room = room_on _ _ _ c.requires.room a.moved }
 
 pub cells-requires : goal.cells-requires
-cells-requires c = record { room = room_on _ _ _ c.requires.room c.in-ok-len.ensures.moved }
+cells-requires c = record { room = room_on _ _ _ c.requires.room c.in_ok-len.ensures.moved }
 
-pub returns-in-err-cells : goal.returns-in-err-cells
+pub returns-in_err-cells : goal.returns-in_err-cells
 unfolding read_expression
-returns-in-err-cells c =
-    let a = c.in-ok-len.ensures in
-    let b = c.in-err-cells.ensures in
-    let p = err_from_is_err_and c.from-residual-in-err-cells.result c.from-residual-in-err-cells.ensures.1 in
+returns-in_err-cells c =
+    let a = c.in_ok-len.ensures in
+    let b = c.in_err-cells.ensures in
+    let p = err_from_is_err_and c.from_residual-in_err-cells.result c.from_residual-in_err-cells.ensures.1 in
     record {
       reads = rw (p.1, p.2, a.reads, ← c.from.ensures) (as_before (many read_cell c.from.result) _ _ _ a.moved b.reads);
       moved = moved_on _ _ _ a.moved b.moved;
@@ -35,8 +35,8 @@ returns-in-err-cells c =
 pub returns : goal.returns
 unfolding read_expression
 returns c =
-    let a = c.in-ok-len.ensures in
-    let b = c.in-ok-cells.ensures in
+    let a = c.in_ok-len.ensures in
+    let b = c.in_ok-cells.ensures in
     let f = b.reads in
     let n = many-counts read_cell _ _ _ f.items _ f.reads ∙ c.from.ensures in
     record {

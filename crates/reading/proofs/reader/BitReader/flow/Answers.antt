@@ -2,13 +2,13 @@ use Rattle.std.proofs.Common.{rules}
 use Rattle.syntax.specs.Decoder.{read_flow}
 use Rattle.reading.proofs.reader.BitReader.flow.Goals as goal
 
-pub returns-in-err-take : goal.returns-in-err-take
+pub returns-in_err-take : goal.returns-in_err-take
 unfolding read_flow
-returns-in-err-take c = search rules
+returns-in_err-take c = search rules
 
-pub returns-in-err-clock : goal.returns-in-err-clock
+pub returns-in_err-clock : goal.returns-in_err-clock
 unfolding read_flow
-returns-in-err-clock c = search rules
+returns-in_err-clock c = search rules
 
 pub returns : goal.returns
 unfolding read_flow

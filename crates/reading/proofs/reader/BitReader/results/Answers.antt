@@ -5,19 +5,19 @@ use Rattle.reading.proofs.Filling.{as_before, moved_on}
 use Rattle.reading.proofs.Gathering.{many-counts}
 use Rattle.reading.proofs.reader.BitReader.results.Goals as goal
 
-pub returns-in-err-count : goal.returns-in-err-count
+pub returns-in_err-count : goal.returns-in_err-count
 unfolding read_results
-returns-in-err-count c = search rules
+returns-in_err-count c = search rules
 
-pub returns-in-err-result-flows : goal.returns-in-err-result-flows
+pub returns-in_err-result_flows : goal.returns-in_err-result_flows
 unfolding read_results
-returns-in-err-result-flows c = search rules
+returns-in_err-result_flows c = search rules
 
 pub returns : goal.returns
 unfolding read_results
 returns c =
-    let a = c.in-ok-count.ensures in
-    let b = c.in-ok-result-flows.ensures in
+    let a = c.in_ok-count.ensures in
+    let b = c.in_ok-result_flows.ensures in
     let f = b.fills in
     let n = many-counts (field 5) _ _ _ f.items _ f.reads ∙ c.from.ensures in
     record {

@@ -2,16 +2,16 @@ use Rattle.std.proofs.Common.{◌≡◌, refl, arith}
 use Rattle.reading.proofs.Takes.{taken_none, taken_some}
 use Rattle.reading.proofs.reader.BitReader.take.Goals as goal
 
-pub returns-in-default : goal.returns-in-default
-returns-in-default c = record {
-  reads = taken_none c.args.width c.args.self.now.bytes.now c.args.self.now.at c.requires c.in-default.ensures;
+pub returns-in_default : goal.returns-in_default
+returns-in_default c = record {
+  reads = taken_none c.args.width c.args.self.now.bytes.now c.args.self.now.at c.requires c.in_default.ensures;
   bound = tt;
   step = tt;
   moved = record { bytes = refl; on = omega arith };
 }
 
-pub invariant-of-self : goal.invariant-of-self
-invariant-of-self c =
+pub invariant_of-self : goal.invariant_of-self
+invariant_of-self c =
     let d = taken_some c.args.width c.args.self.now.bytes.now c.args.self.now.at c.requires c.in-Some.value c.in-Some.ensures in
     (omega (arith, d, c.from.ensures), (c.args.self.now.short, tt))
 

@@ -1,4 +1,4 @@
-use Rattle.std.proofs.Common.{◌≡◌, ◌≤◌, map, length, sym, ◌∙◌, arith}
+use Rattle.std.proofs.Common.{map, sym, ◌∙◌}
 use Rattle.std.proofs.lemmas.List.{get_or-map, get_or_past, length-map}
 use Rattle.layout.specs.Layout.{node_in}
 use Rattle.rules.specs.Names.{no_node}
@@ -9,7 +9,7 @@ pub returns-then-number-block : goal.returns-then-number-block
 unfolding block_of
 returns-then-number-block c =
     let b = c.args.block.now in
-    c.view-of.ensures ∙ sym (get_or-map (node_in b.cells.now) b.nodes.now c.args.number _ no_node c.if-number-block.true)
+    c.view_of.ensures ∙ sym (get_or-map (node_in b.cells.now) b.nodes.now c.args.number _ no_node c.if-number-block.true)
 
 pub returns : goal.returns
 unfolding block_of
