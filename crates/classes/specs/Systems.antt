@@ -1,5 +1,5 @@
 -- The systems of this crate.
-use Rattle.std.specs.Prelude.{◌≡◌, ℕ, ◌/◌, ◌%◌, ◌^◌, ◌<◌, max, Bool, cond, ◌&&◌, T, ◌⊎◌, ◌↔◌, Some, None, Option, ◌==◌, bit-or, nat_le}
+use Rattle.std.specs.Prelude.{◌≡◌, ℕ, ◌/◌, ◌%◌, ◌^◌, ◌<◌, max, cond, ◌&&◌, T, ◌⊎◌, ◌↔◌, Some, None, Option, ◌==◌, bit_or, nat_le}
 use Rattle.classes.specs.declared.pair.Both.{Both}
 use Rattle.classes.specs.Classes.{Classes}
 
@@ -8,7 +8,7 @@ abbrev pub ranked : ℕ → Classes ℕ
 ranked top = record {
   bottom = 0;
   join = max;
-  below = leb;
+  below = nat_le;
   named = λ code. cond (nat_le code top) (Some code) None;
 }
 
@@ -17,8 +17,8 @@ ranked top = record {
 abbrev pub compartments : Classes ℕ
 compartments = record {
   bottom = 0;
-  join = bitOr;
-  below = λ a b. (bit-or a b == b);
+  join = bit_or;
+  below = λ a b. (bit_or a b == b);
   named = λ code. Some code;
 }
 

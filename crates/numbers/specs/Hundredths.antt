@@ -24,7 +24,7 @@ hundredths = record {
   less = λ a b. held (a -ℤ b);
   times = λ a b. held (toward_zero (a *ℤ b) (pos 100));
   quotient = λ a b. held (toward_zero (pos 100 *ℤ a) b);
-  below = lt_z;
+  below = int_lt;
   same = same_z;
   show = λ a. a;
 }

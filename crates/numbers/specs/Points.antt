@@ -1,6 +1,5 @@
 -- Whole points: signed numbers of 32 bits that wrap.
-use Rattle.std.specs.Prelude.{ℤ, ◌+ℤ◌, ◌-ℤ◌, ◌*ℤ◌, neg_ℤ}
-use Rattle.std.specs.Int.Signed.{lt_z}
+use Rattle.std.specs.Prelude.{ℤ, ◌+ℤ◌, ◌-ℤ◌, ◌*ℤ◌, neg_ℤ, int_lt}
 use Rattle.std.specs.Int.{int_wrap, w32}
 use Rattle.numbers.specs.Reckonings.{Reckonings}
 use Rattle.numbers.specs.Integers.{same_z, toward_zero}
@@ -18,7 +17,7 @@ points = record {
   less = λ a b. wrap (a -ℤ b);
   times = λ a b. wrap (a *ℤ b);
   quotient = λ a b. wrap (toward_zero a b);
-  below = lt_z;
+  below = int_lt;
   same = same_z;
   show = λ a. a;
 }

@@ -1,10 +1,10 @@
 -- From the parts of a block that were read to the block.
-use Rattle.std.proofs.Common.{◌≡◌, ℕ, ◌+◌, ◌*◌, ◌<◌, ◌≤◌, Bool, true, false, cond, ◌⊎◌, List, [], ◌∷◌, length, get_or, drop, replicate, Ok, Err, Result, sym, refl, ap, ◌∙◌, inl, inr, ⊎_elim, zero-add, arith}
+use Rattle.std.proofs.Common.{◌≡◌, ℕ, ◌+◌, ◌<◌, ◌≤◌, true, false, List, [], length, get_or, drop, replicate, Ok, Err, Result, sym, ap, ◌∙◌, ⊎_elim, zero-add, arith}
 use Rattle.std.proofs.lemmas.List.{get_or_past}
 use Rattle.std.proofs.lemmas.Bool.{le-leb, lt-leb, cases_lt, cases_Bool, and_right}
 use Rattle.syntax.specs.declared.fault.ReadFault.{ReadFault}
 use Rattle.syntax.specs.declared.fault.ReadFault.TheVariants.{TooFewCells, BlockLength, Filling}
-use Rattle.syntax.specs.Syntax.{NodeSyntax, BlockSyntax}
+use Rattle.syntax.specs.Syntax.{BlockSyntax}
 use Rattle.syntax.specs.Parse.{Parser, field, many}
 use Rattle.syntax.specs.Decoder.{read_mark, read_node, read_fields, fills, filled, decode, decode_into}
 use Rattle.bits.specs.Bits.{bits_of}
@@ -15,7 +15,7 @@ use Rattle.layout.specs.declared.store.CellStore.{CellStore}
 use Rattle.layout.specs.declared.table.Table.{Table}
 use Rattle.layout.specs.Blanks.{blank_cell, blank_node}
 use Rattle.layout.specs.Layout.{padded, rows_from, node_row, node_cells, block_cells}
-use Rattle.layout.specs.Held.{Holds, PastBlank}
+use Rattle.layout.specs.Held.{Holds}
 use Rattle.reading.specs.Storing.{ended, Room, Grown, ListStored}
 use Rattle.layout.proofs.Lists.{joined_none, rows_none}
 

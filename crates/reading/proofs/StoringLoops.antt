@@ -1,12 +1,12 @@
 -- What loops keep that read one thing after another and store cells.
-use Rattle.std.proofs.Common.{◌≡◌, ℕ, ◌+◌, ◌*◌, ◌<◌, ◌≤◌, ◌⊎◌, List, [], ◌∷◌, ◌++◌, length, get_or, set, Ok, Err, sym, refl, ap, ◌∙◌, ⊎_elim, add-zero, arith, length-append, length-set, get_or-set_other}
+use Rattle.std.proofs.Common.{◌≡◌, ℕ, ◌+◌, ◌<◌, ◌≤◌, List, [], ◌∷◌, ◌++◌, length, get_or, set, Ok, Err, sym, refl, ap, ◌∙◌, add-zero, arith, length-append, length-set, get_or-set_other}
 use Rattle.syntax.specs.declared.cell.Cell.{Cell}
 use Rattle.syntax.specs.declared.fault.ReadFault.{ReadFault}
 use Rattle.syntax.specs.Parse.{Parser, many}
 use Rattle.syntax.specs.Encoder.{joined}
 use Rattle.bits.specs.Bits.{bits_of}
 use Rattle.bits.specs.Overwriting.{written}
-use Rattle.bits.proofs.Written.{written_none, written-push, written-append, length-written, written_after}
+use Rattle.bits.proofs.Written.{written_none, written-push, written-append}
 use Rattle.reading.specs.declared.reader.BitReader.{BitReader}
 use Rattle.layout.specs.declared.store.CellStore.{CellStore}
 use Rattle.layout.specs.Blanks.{blank_cell}

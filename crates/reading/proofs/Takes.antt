@@ -1,5 +1,5 @@
 -- What taking a field says of the list of bits.
-use Rattle.std.proofs.Common.{◌≡◌, ℕ, ◌+◌, ◌*◌, ◌^◌, ◌<◌, ◌≤◌, cond, leb, List, length, take, drop, Some, None, Ok, Err, Option, sym, refl, ◌∙◌, ⊎_elim, arith}
+use Rattle.std.proofs.Common.{◌≡◌, ℕ, ◌+◌, ◌*◌, ◌^◌, ◌<◌, ◌≤◌, cond, leb, List, length, take, drop, Some, None, Ok, Err, ⊎_elim, arith}
 use Rattle.std.proofs.lemmas.Bool.{le-leb, cases_lt}
 use Rattle.syntax.specs.declared.fault.ReadFault.TheVariants.{Ends}
 use Rattle.syntax.specs.Parse.{field}

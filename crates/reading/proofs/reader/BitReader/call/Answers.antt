@@ -1,12 +1,9 @@
-use Rattle.std.proofs.Common.{◌≡◌, ◌+◌, sym, ap, ◌∙◌, arith}
 use Rattle.std.proofs.lemmas.Result.{err_from_is_err_and}
-use Rattle.syntax.specs.Parse.{field, many}
-use Rattle.syntax.specs.Syntax.{plain, delay, call}
+use Rattle.syntax.specs.Syntax.{call}
 use Rattle.syntax.specs.Decoder.{read_results, read_arguments, read_call}
-use Rattle.layout.specs.declared.node.Form.TheVariants.{Plain, Delay, Call}
+use Rattle.layout.specs.declared.node.Form.TheVariants.{Call}
 use Rattle.reading.proofs.Filling.{as_before, moved_on}
-use Rattle.reading.proofs.Gathering.{many-counts}
-use Rattle.reading.proofs.StoringLoops.{not_grown, grown_on, room_on}
+use Rattle.reading.proofs.StoringLoops.{not_grown, room_on}
 use Rattle.reading.proofs.reader.BitReader.call.Goals as goal
 
 pub returns-in_err-node : goal.returns-in_err-node

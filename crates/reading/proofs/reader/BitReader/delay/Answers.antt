@@ -1,12 +1,10 @@
-use Rattle.std.proofs.Common.{◌≡◌, ◌+◌, sym, ap, ◌∙◌, arith}
+use Rattle.std.proofs.Common.{ap}
 use Rattle.std.proofs.lemmas.Result.{err_from_is_err_and}
-use Rattle.syntax.specs.Parse.{field, many}
-use Rattle.syntax.specs.Syntax.{plain, delay, call}
+use Rattle.syntax.specs.Syntax.{delay}
 use Rattle.syntax.specs.Decoder.{read_constant, read_expression, read_delay}
-use Rattle.layout.specs.declared.node.Form.TheVariants.{Plain, Delay, Call}
+use Rattle.layout.specs.declared.node.Form.TheVariants.{Delay}
 use Rattle.reading.proofs.Filling.{as_before, moved_on}
-use Rattle.reading.proofs.Gathering.{many-counts}
-use Rattle.reading.proofs.StoringLoops.{not_grown, grown_on, room_on}
+use Rattle.reading.proofs.StoringLoops.{not_grown, room_on}
 use Rattle.reading.proofs.reader.BitReader.delay.Goals as goal
 
 pub returns-in_err-flow : goal.returns-in_err-flow

@@ -1,12 +1,8 @@
-use Rattle.std.proofs.Common.{◌≡◌, ◌+◌, sym, ap, ◌∙◌, arith}
 use Rattle.std.proofs.lemmas.Result.{err_from_is_err_and}
-use Rattle.syntax.specs.Parse.{field, many}
-use Rattle.syntax.specs.Syntax.{plain, delay, call}
-use Rattle.syntax.specs.Decoder.{read_form_number, read_form, read_equation}
-use Rattle.layout.specs.declared.node.Form.TheVariants.{Plain, Delay, Call}
+use Rattle.syntax.specs.Parse.{field}
+use Rattle.syntax.specs.Decoder.{read_form, read_equation}
 use Rattle.reading.proofs.Filling.{as_before, moved_on}
-use Rattle.reading.proofs.Gathering.{many-counts}
-use Rattle.reading.proofs.StoringLoops.{not_grown, grown_on, room_on}
+use Rattle.reading.proofs.StoringLoops.{not_grown, room_on}
 use Rattle.reading.proofs.reader.BitReader.equation.Goals as goal
 
 pub returns-in_err-number : goal.returns-in_err-number

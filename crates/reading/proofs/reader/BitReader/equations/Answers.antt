@@ -1,10 +1,10 @@
-use Rattle.std.proofs.Common.{◌≡◌, ◌+◌, sym, ap, ◌∙◌, arith}
+use Rattle.std.proofs.Common.{sym, ◌∙◌, arith}
 use Rattle.std.proofs.lemmas.Result.{err_from_is_err_and}
-use Rattle.syntax.specs.Parse.{field, many}
-use Rattle.syntax.specs.Decoder.{read_count, read_equation, read_equations}
+use Rattle.syntax.specs.Parse.{many}
+use Rattle.syntax.specs.Decoder.{read_equation, read_equations}
 use Rattle.reading.proofs.Filling.{as_before, moved_on}
 use Rattle.reading.proofs.Gathering.{many-counts}
-use Rattle.reading.proofs.StoringLoops.{not_grown, grown_on, room_on}
+use Rattle.reading.proofs.StoringLoops.{not_grown, room_on}
 use Rattle.reading.proofs.reader.BitReader.equations.Goals as goal
 
 pub returns-in_err-count : goal.returns-in_err-count

@@ -1,12 +1,10 @@
-use Rattle.std.proofs.Common.{◌≡◌, ◌+◌, sym, ap, ◌∙◌, arith}
+use Rattle.std.proofs.Common.{sym, ◌∙◌}
 use Rattle.std.proofs.lemmas.Result.{err_from_is_err_and}
-use Rattle.syntax.specs.Parse.{field, many}
-use Rattle.syntax.specs.Syntax.{plain, delay, call}
+use Rattle.syntax.specs.Parse.{many}
 use Rattle.syntax.specs.Decoder.{read_cell, read_expression}
-use Rattle.layout.specs.declared.node.Form.TheVariants.{Plain, Delay, Call}
 use Rattle.reading.proofs.Filling.{as_before, moved_on}
 use Rattle.reading.proofs.Gathering.{many-counts}
-use Rattle.reading.proofs.StoringLoops.{not_grown, grown_on, room_on}
+use Rattle.reading.proofs.StoringLoops.{not_grown, room_on}
 use Rattle.reading.proofs.reader.BitReader.expression.Goals as goal
 
 pub returns-in_err-len : goal.returns-in_err-len

@@ -1,4 +1,4 @@
-use Rattle.std.proofs.Common.{◌≡◌, sym, arith}
+use Rattle.std.proofs.Common.{sym}
 use Rattle.reading.proofs.Endings.{ended_fine, ended_set, ended_long, ended_never}
 use Rattle.reading.proofs.reader.BitReader.filling.Goals as goal
 use Rattle.reading.proofs.reader.BitReader.filling.Goals.{else-rest-lt8-via-then-rest-lt8+in_ok-take+else-branch-eq0, else-rest-lt8-via-else-rest-lt8}

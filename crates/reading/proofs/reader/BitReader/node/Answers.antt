@@ -1,6 +1,6 @@
-use Rattle.std.proofs.Common.{◌≡◌, ◌+◌, sym, ap, ◌∙◌, arith}
+use Rattle.std.proofs.Common.{◌+◌, sym, ◌∙◌}
 use Rattle.std.proofs.lemmas.Result.{err_from_is_err_and}
-use Rattle.syntax.specs.Parse.{field, many}
+use Rattle.syntax.specs.Parse.{field}
 use Rattle.syntax.specs.Decoder.{read_flow, read_clock, read_equations, read_node}
 use Rattle.reading.proofs.Filling.{as_before, many_before, moved_on}
 use Rattle.reading.proofs.Gathering.{many-counts}

@@ -1,4 +1,4 @@
-use Rattle.std.proofs.Common.{◌≡◌, ◌+◌, length, sym, ◌∙◌, rules}
+use Rattle.std.proofs.Common.{sym, ◌∙◌, rules}
 use Rattle.syntax.specs.Parse.{field, many}
 use Rattle.syntax.specs.Decoder.{read_results}
 use Rattle.reading.proofs.Filling.{as_before, moved_on}

@@ -1,4 +1,4 @@
-use Rattle.std.proofs.Common.{◌≡◌, refl, arith}
+use Rattle.std.proofs.Common.{refl, arith}
 use Rattle.reading.proofs.Takes.{taken_none, taken_some}
 use Rattle.reading.proofs.reader.BitReader.take.Goals as goal
 
@@ -13,7 +13,7 @@ returns-in_default c = record {
 pub invariant_of-self : goal.invariant_of-self
 invariant_of-self c =
     let d = taken_some c.args.width c.args.self.now.bytes.now c.args.self.now.at c.requires c.in-Some.value c.in-Some.ensures in
-    (omega (arith, d, c.from.ensures), (c.args.self.now.short, tt))
+    record { within = omega (arith, d, c.from.ensures); short = c.args.self.now.short }
 
 pub returns : goal.returns
 returns c =
