@@ -5,8 +5,6 @@ use Rattle.syntax.specs.declared.cell.Cell.{Cell}
 use Rattle.syntax.specs.Encoder.{joined}
 use Rattle.syntax.specs.Syntax.{EquationSyntax}
 use Rattle.layout.specs.declared.node.Equation.{Equation}
-use Rattle.layout.specs.declared.node.Form.{Form}
-use Rattle.layout.specs.declared.node.Form.TheVariants.{Plain, Delay, Call}
 use Rattle.layout.specs.Layout.{form_in, equation_in}
 use Rattle.rules.specs.Definitions.{times}
 use Rattle.rules.specs.Names.{defined_by}

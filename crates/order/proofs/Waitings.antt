@@ -1,15 +1,15 @@
 -- What an equation waits on, part by part.
-use Rattle.std.proofs.Common.{◌≡◌, ℕ, ◌||◌, eqb, ◌⊎◌, List, [], ◌∷◌, sym, refl, ap, ◌∙◌, inl, inr}
+use Rattle.std.proofs.Common.{◌≡◌, ℕ, ◌||◌, eqb, ◌⊎◌, List, [], ◌∷◌, sym, ap, ◌∙◌, inl, inr}
 use Rattle.syntax.specs.declared.cell.Cell.{Cell}
 use Rattle.syntax.specs.declared.header.Constant.{Constant}
 use Rattle.syntax.specs.Syntax.{EquationSyntax, NodeSyntax}
 use Rattle.layout.specs.declared.node.Span.{Span}
 use Rattle.layout.specs.declared.node.Form.{Form}
-use Rattle.layout.specs.declared.node.Form.TheVariants.{Plain, Delay, Call}
+use Rattle.layout.specs.declared.node.Form.TheVariants.{Plain, Delay}
 use Rattle.layout.specs.declared.node.Equation.{Equation}
-use Rattle.layout.specs.Layout.{form_in, equation_in}
+use Rattle.layout.specs.Layout.{equation_in}
 use Rattle.rules.specs.Every.{some, has}
-use Rattle.rules.specs.Names.{clock_flows, defined_by}
+use Rattle.rules.specs.Names.{clock_flows}
 use Rattle.rules.specs.Definitions.{form_needs, needs}
 use Rattle.rules.specs.Views.{row_defines}
 use Rattle.rules.proofs.Rows.{row-defined}

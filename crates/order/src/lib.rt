@@ -1,5 +1,6 @@
 // The order in which the equations of a node are worked out, if there is one.
 #![tactic(auto)]
+
 mod naming;
 pub mod ordering;
 mod picking;

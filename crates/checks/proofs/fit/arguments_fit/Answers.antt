@@ -10,6 +10,6 @@ pub returns : goal.returns
 returns c =
     let n = node_of c.args.node.now in
     let cells = c.args.node.now.cells.now in
-    c.all-of.ensures
+    c.all_of.ensures
     ∙ ap (every_from (λ i e. expression_fits n (expression_in cells e)) 0) c.counted.ensures.part
     ∙ sym (every_map (expression_in cells) (λ i e. expression_fits n e) 0 _)

@@ -10,6 +10,6 @@ pub returns : goal.returns
 returns c =
     let cells = c.args.cells.now in
     let spans = spans_in c.args.arguments.now in
-    c.sum-of.ensures
+    c.sum_of.ensures
     ∙ ap (λ xs. capped (total (λ s. length (expression_in cells s)) xs)) c.counted.ensures.part
     ∙ ap capped (sym (total-map (expression_in cells) (λ e. length e) spans) ∙ cells_total (map (expression_in cells) spans))

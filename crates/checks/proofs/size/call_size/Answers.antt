@@ -10,15 +10,15 @@ use Rattle.checks.proofs.size.call_size.Goals as goal
 pub returns : goal.returns
 returns c =
     let b = block_of c.args.block.now in
-    let called = c.node-view-called.ensures ∙ ap (node_at b) c.from-number.ensures in
+    let called = c.node_view-called.ensures ∙ ap (node_at b) c.from-number.ensures in
     c.plus.ensures
     ∙ call_capped
     _
-    c.flows-added.result
+    c.flows_added.result
     _
-    c.argument-cells.result
+    c.argument_cells.result
     _
     _
-    (c.flows-added.ensures ∙ ap (λ (n : NodeSyntax). n.inputs + n.locals) called)
-    c.argument-cells.ensures
-    (c.size-at.ensures ∙ ap (λ k. get_or (sizes_in c.args.earlier.now) k no_size) c.from-number.ensures)
+    (c.flows_added.ensures ∙ ap (λ (n : NodeSyntax). n.inputs + n.locals) called)
+    c.argument_cells.ensures
+    (c.size_at.ensures ∙ ap (λ k. get_or (sizes_in c.args.earlier.now) k no_size) c.from-number.ensures)

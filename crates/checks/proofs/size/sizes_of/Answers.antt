@@ -16,10 +16,10 @@ loop-k-preserved c =
     let b = block_of c.args.block.now in
     let table = c.loop-k.sizes in
     let k = c.loop-k.k in
-    let r = c.node-size.result in
+    let r = c.node_size.result in
     let within : k < length b = omega (arith, nodes_of c.args.block.now, c.loop-k-test.true) in
     let room : k < length (sizes_in table) = omega (arith, length-map table size_in, c.loop-k.invariant.0, c.requires, c.loop-k-test.true) in
-    let e = c.node-size.ensures ∙ ap (λ (n : NodeSyntax). capped_size (equations_size b (sizes_in table) n.equations)) c.node-view.ensures in (
+    let e = c.node_size.ensures ∙ ap (λ (n : NodeSyntax). capped_size (equations_size b (sizes_in table) n.equations)) c.node_view.ensures in (
       length-set table k r ∙ c.loop-k.invariant.0,
       subst (Sizing b (k + 1)) (sym (map-set size_in table k r)) (sizing_more b (sizes_in table) k (size_in r) within room e c.loop-k.invariant.1),
     )

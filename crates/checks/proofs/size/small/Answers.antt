@@ -4,4 +4,4 @@ use Rattle.checks.proofs.Sizing.{capped_small}
 use Rattle.checks.proofs.size.small.Goals as goal
 
 pub returns : goal.returns
-returns c = c.is-small.ensures ∙ capped_small (length c.args.node.now.flows.now) (size_in c.size-of.result) _ c.size-of.ensures
+returns c = c.is_small.ensures ∙ capped_small (length c.args.node.now.flows.now) (size_in c.size_of.result) _ c.size_of.ensures

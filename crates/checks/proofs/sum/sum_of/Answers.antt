@@ -6,7 +6,7 @@ loop-i-init g c = adding_none (g.W.Weight.worth c.args.weight.now) c.args.items.
 
 pub loop-i-preserved : goal.loop-i-preserved
 loop-i-preserved g c =
-    adding_more (g.W.Weight.worth c.args.weight.now) c.args.items.now c.loop-i.i c.loop-i.sum c.index-items-i.result c.weigh.result _ c.loop-i-test.true c.index-items-i.is c.weigh.ensures c.saturating-add-sum.ensures c.loop-i.invariant
+    adding_more (g.W.Weight.worth c.args.weight.now) c.args.items.now c.loop-i.i c.loop-i.sum c.index-items-i.result c.weigh.result _ c.loop-i-test.true c.index-items-i.is c.weigh.ensures c.saturating_add-sum.ensures c.loop-i.invariant
 
 pub returns : goal.returns
 returns g c = adding_all (g.W.Weight.worth c.args.weight.now) c.args.items.now c.loop-i.i c.loop-i.sum c.loop-i-test.false c.loop-i.invariant

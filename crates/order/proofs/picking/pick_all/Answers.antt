@@ -5,8 +5,8 @@ use Rattle.order.proofs.picking.pick_all.Goals as goal
 pub loop-k-init : goal.loop-k-init
 loop-k-init c = (refl, picking_none _ _ _ _ refl)
 
-pub slice-bounds-pick-end : goal.slice-bounds-pick-end
-slice-bounds-pick-end c = sym c.loop-k.invariant.0
+pub slice_bounds-pick-end : goal.slice_bounds-pick-end
+slice_bounds-pick-end c = sym c.loop-k.invariant.0
 
 pub returns-in-None : goal.returns-in-None
 returns-in-None c = picking_stuck _ _ _ _ _ c.loop-k.invariant.1 c.loop-k-test.true c.in-None.ensures

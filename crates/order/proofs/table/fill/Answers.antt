@@ -9,7 +9,7 @@ pub loop-i-preserved : goal.loop-i-preserved
 loop-i-preserved c =
     let v = c.args.view.now in
     let e = length-map v.equations.now (equation_in v.cells.now) in
-    rows_more (node_of v) _ _ _ (omega (arith, e)) c.loop-i.invariant c.fill-row.ensures.row c.fill-row.ensures.other
+    rows_more (node_of v) _ _ _ (omega (arith, e)) c.loop-i.invariant c.fill_row.ensures.row c.fill_row.ensures.other
 
 pub returns : goal.returns
 returns c =

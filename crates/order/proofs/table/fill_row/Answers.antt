@@ -8,7 +8,7 @@ pub loop-j-init : goal.loop-j-init
 loop-j-init c = record { tells = λ y l. absurd (omega arith); other = λ x y l ne. refl }
 
 pub loop-j-preserved : goal.loop-j-preserved
-loop-j-preserved c = filling_more _ _ _ _ _ _ c.loop-j.invariant (omega arith) (omega arith) c.waits-at.ensures
+loop-j-preserved c = filling_more _ _ _ _ _ _ c.loop-j.invariant (omega arith) (omega arith) c.waits_at.ensures
 
 pub returns : goal.returns
 returns c =

@@ -11,4 +11,4 @@ returns c =
     let v = c.args.view.now in
     let i = sym (get_or-map (equation_in v.cells.now) v.equations.now c.args.i _ no_equation c.requires.i) in
     let j = sym (get_or-map (equation_in v.cells.now) v.equations.now c.args.j _ no_equation c.requires.j) in
-    c.equation-waits.ensures ∙ λ t. waits_on (node_of v) (i t) (j t)
+    c.equation_waits.ensures ∙ λ t. waits_on (node_of v) (i t) (j t)

@@ -14,11 +14,11 @@ returns-then-at-eq0 c =
 
 pub returns-then-defines : goal.returns-then-defines
 returns-then-defines c =
-    walk_found (λ y. has y (row_defines c.args.on.now)) c.args.clocks.now c.args.clock c.loop.counter c.loop.at c.loop.invariant c.clock-at-derived.result _ (omega arith) c.if-at-eq0.false (c.clock-at-derived.ensures ∙ ap (λ k. get_or c.args.clocks.now (k - 1) blank_clock) c.from.ensures) c.defines.ensures c.if-defines.true
+    walk_found (λ y. has y (row_defines c.args.on.now)) c.args.clocks.now c.args.clock c.loop.counter c.loop.at c.loop.invariant c.clock_at-derived.result _ (omega arith) c.if-at-eq0.false (c.clock_at-derived.ensures ∙ ap (λ k. get_or c.args.clocks.now (k - 1) blank_clock) c.from.ensures) c.defines.ensures c.if-defines.true
 
 pub loop-preserved : goal.loop-preserved
 loop-preserved c =
-    walk_more (λ y. has y (row_defines c.args.on.now)) c.args.clocks.now c.args.clock c.loop.counter c.loop.at c.loop.invariant c.clock-at-derived.result _ (omega arith) c.if-at-eq0.false (c.clock-at-derived.ensures ∙ ap (λ k. get_or c.args.clocks.now (k - 1) blank_clock) c.from.ensures) c.defines.ensures c.if-defines.false
+    walk_more (λ y. has y (row_defines c.args.on.now)) c.args.clocks.now c.args.clock c.loop.counter c.loop.at c.loop.invariant c.clock_at-derived.result _ (omega arith) c.if-at-eq0.false (c.clock_at-derived.ensures ∙ ap (λ k. get_or c.args.clocks.now (k - 1) blank_clock) c.from.ensures) c.defines.ensures c.if-defines.false
 
 pub returns : goal.returns
 returns c =

@@ -6,18 +6,18 @@ use Rattle.order.specs.Waiting.{defines_one}
 use Rattle.order.proofs.Waitings.{waits_parts}
 use Rattle.order.proofs.waiting.equation_waits.Goals as goal
 
-pub returns-then-clock-waits : goal.returns-then-clock-waits
-returns-then-clock-waits c =
+pub returns-then-clock_waits : goal.returns-then-clock_waits
+returns-then-clock_waits c =
     let v = c.args.view.now in
     let e = equation_in v.cells.now c.args.equation.now in
-    c.if-clock-waits.true
-    ∙ ap (λ b. b || defines_one c.args.on.now.form (form_needs e.form)) (sym c.if-clock-waits.true ∙ c.clock-waits.ensures)
+    c.if-clock_waits.true
+    ∙ ap (λ b. b || defines_one c.args.on.now.form (form_needs e.form)) (sym c.if-clock_waits.true ∙ c.clock_waits.ensures)
     ∙ waits_parts (node_of v) v.cells.now e c.args.on.now
 
-pub returns-else-clock-waits : goal.returns-else-clock-waits
-returns-else-clock-waits c =
+pub returns-else-clock_waits : goal.returns-else-clock_waits
+returns-else-clock_waits c =
     let v = c.args.view.now in
     let e = equation_in v.cells.now c.args.equation.now in
-    c.form-waits.ensures
-    ∙ ap (λ b. b || defines_one c.args.on.now.form (form_needs e.form)) (sym c.if-clock-waits.false ∙ c.clock-waits.ensures)
+    c.form_waits.ensures
+    ∙ ap (λ b. b || defines_one c.args.on.now.form (form_needs e.form)) (sym c.if-clock_waits.false ∙ c.clock_waits.ensures)
     ∙ waits_parts (node_of v) v.cells.now e c.args.on.now

@@ -10,6 +10,6 @@ use Rattle.order.proofs.waiting.expression_waits.Goals as goal
 pub returns : goal.returns
 returns c =
     let f = c.args.on.now in
-    c.any-of.ensures
+    c.any_of.ensures
     ∙ sym (some-joined (λ y. has y (row_defines f)) cell_flows _)
     ∙ ap (λ e. defines_one f (cells_flows e)) c.expression.ensures.part

@@ -18,7 +18,7 @@ pub returns-in-Call : goal.returns-in-Call
 returns-in-Call c =
     let f = c.args.on.now in
     let cells = c.args.cells.now in
-    c.any-of.ensures
+    c.any_of.ensures
     ∙ ap (some_from (λ i s. defines_one f (cells_flows (expression_in cells s))) 0) c.counted-spans.ensures.part
     ∙ sym (some-map (expression_in cells) (λ i e. defines_one f (cells_flows e)) 0 _)
     ∙ sym (some-joined (λ y. has y (row_defines f)) cells_flows _)

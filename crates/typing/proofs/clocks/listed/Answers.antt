@@ -5,13 +5,13 @@ use Rattle.typing.proofs.clocks.listed.Goals as goal
 pub loop-i-init : goal.loop-i-init
 loop-i-init c = refl
 
-pub returns-then-is-derived : goal.returns-then-is-derived
-returns-then-is-derived c =
-    listed_here c.args.clocks.now c.args.parent c.args.flow c.args.side c.loop-i.i _ _ c.loop-i-test.true c.is-derived.ensures c.if-is-derived.true c.loop-i.invariant
+pub returns-then-is_derived : goal.returns-then-is_derived
+returns-then-is_derived c =
+    listed_here c.args.clocks.now c.args.parent c.args.flow c.args.side c.loop-i.i _ _ c.loop-i-test.true c.is_derived.ensures c.if-is_derived.true c.loop-i.invariant
 
 pub loop-i-preserved : goal.loop-i-preserved
 loop-i-preserved c =
-    listed_more c.args.clocks.now c.args.parent c.args.flow c.args.side c.loop-i.i _ _ c.loop-i-test.true c.is-derived.ensures c.if-is-derived.false c.loop-i.invariant
+    listed_more c.args.clocks.now c.args.parent c.args.flow c.args.side c.loop-i.i _ _ c.loop-i-test.true c.is_derived.ensures c.if-is_derived.false c.loop-i.invariant
 
 pub returns : goal.returns
 returns c = listed_none c.args.clocks.now c.args.parent c.args.flow c.args.side c.loop-i.i c.loop-i-test.false c.loop-i.invariant

@@ -4,10 +4,10 @@ use Rattle.layout.specs.Held.{is_blank, block_in}
 use Rattle.reading.proofs.Loading.{holds_none}
 use Rattle.block.proofs.rows.Rows.new.Goals as goal
 
-pub invariant-of-result : goal.invariant-of-result
+pub invariant_of-result : goal.invariant_of-result
 unfolding block_in
-invariant-of-result c = (refl, ((λ i h. ap is_blank (c.blank-all.ensures i)), tt))
+invariant_of-result c = (refl, ((λ i h. ap is_blank (c.blank_all.ensures i)), tt))
 
 pub returns : goal.returns
 unfolding block_in blank_node
-returns c = record { blank = holds_none _ refl refl refl c.blank-all.ensures; stands = refl; long = c.blank-all.auto.cells }
+returns c = record { blank = holds_none _ refl refl refl c.blank_all.ensures; stands = refl; long = c.blank_all.auto.cells }

@@ -4,12 +4,12 @@ use Rattle.layout.specs.Held.{readable}
 use Rattle.block.proofs.Keeping.{held_past, read_stands, read_readable, read_back}
 use Rattle.block.proofs.rows.Rows.read.Goals as goal
 
-pub invariant-of-self : goal.invariant-of-self
-invariant-of-self c =
+pub invariant_of-self : goal.invariant_of-self
+invariant_of-self c =
     let n = length c.args.self.now.table.store.cells.now in
     let bs = c.args.bytes.now in
     let t = c.read.new.table in
-    ((ap readable (read_stands n bs t c.read.ensures.rows) ∙ read_readable n bs (λ j. omega (arith, c.type-inv.bytes j))), (held_past t _ c.read.ensures.rows, tt))
+    ((ap readable (read_stands n bs t c.read.ensures.rows) ∙ read_readable n bs (λ j. omega (arith, c.type_inv.bytes j))), (held_past t _ c.read.ensures.rows, tt))
 
 pub returns : goal.returns
 returns c =
@@ -20,6 +20,6 @@ returns c =
       answer = c.read.ensures.answer;
       rows = c.read.ensures.rows;
       stands = s;
-      back = λ a. ap encode s ∙ read_back n bs (λ j. omega (arith, c.type-inv.bytes j)) (sym c.read.ensures.answer ∙ a);
+      back = λ a. ap encode s ∙ read_back n bs (λ j. omega (arith, c.type_inv.bytes j)) (sym c.read.ensures.answer ∙ a);
       long = c.read.ensures.long;
     }
