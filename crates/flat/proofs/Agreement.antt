@@ -1,5 +1,5 @@
 -- Two runs agree at any flows that are closed under what bears on them.
-use Rattle.std.proofs.Common.{◌≡◌, ℕ, zero, suc, ◌<◌, Bool, cond, List, [], ◌∷◌, ◌++◌, length, get_or, ℤ, pos, Some, None, Option, sym, refl, ap, ◌∙◌, subst, ap₂, arith}
+use Rattle.std.proofs.Common.{◌≡◌, ℕ, zero, suc, ◌<◌, cond, List, [], ◌∷◌, ◌++◌, length, get_or, ℤ, pos, Some, sym, refl, ap, ◌∙◌, subst, ap₂, arith}
 use Rattle.std.specs.List.{AllZip, AllByRecursion as All}
 use Rattle.syntax.specs.declared.header.Kind.{Kind}
 use Rattle.numbers.specs.Reckonings.{Reckonings}
@@ -10,7 +10,6 @@ use Rattle.flat.specs.declared.value.Value.{Value}
 use Rattle.flat.specs.Programs.{Definition, input, plain, delay, Program, size, row, exp_flows, control_flows, clock_flow, chain, clock_flows, needs_of, needs, sources_of, sources, Ordered}
 use Rattle.flat.specs.Values.{Answers, read_as, constant_value, says, gate, unary_value, binary_value, picked, exp_value, control_value, on}
 use Rattle.flat.specs.Beats.{Held, due, renewed, AtDelay, AtInput, Beat, Run, none, beat}
-use Rattle.flat.specs.Clearing.{In}
 use Rattle.flat.proofs.Alls.{all_at, all_of, all_left, all_right, all_both}
 
 -- the flow that a clock names is one that it goes by, so what a flow needs bears on it

@@ -1,12 +1,12 @@
 -- Every beat has one answer, and every list of readings one history.
-use Rattle.std.proofs.Common.{◌≡◌, ℕ, zero, suc, ◌<◌, Bool, false, cond, List, [], ◌∷◌, ◌++◌, length, get_or, ℤ, pos, Some, None, Option, sym, refl, ◌∙◌, arith}
+use Rattle.std.proofs.Common.{◌≡◌, ℕ, zero, suc, ◌<◌, false, cond, List, [], ◌∷◌, ◌++◌, length, get_or, ℤ, pos, None, refl, arith}
 use Rattle.std.specs.List.{AllZip, AllByRecursion as All}
 use Rattle.numbers.specs.Reckonings.{Reckonings}
 use Rattle.flat.specs.declared.value.Value.{Value}
 use Rattle.flat.specs.declared.value.Value.TheVariants.{Truth}
 use Rattle.flat.specs.Programs.{Definition, input, plain, delay, Program, size, row, needs, sources, Ordered}
 use Rattle.flat.specs.Values.{Answers, constant_value, gate, exp_value, on}
-use Rattle.flat.specs.Beats.{Held, due, renewed, AtDelay, AtInput, Beat, Starts, Run, none, beat, History, HistoriesGrow, SameAnswers, SameHeld, OneAnswer, OrderedOneAnswer}
+use Rattle.flat.specs.Beats.{Held, due, renewed, AtDelay, AtInput, Beat, Run, none, beat, HistoriesGrow, SameAnswers, OneAnswer, OrderedOneAnswer}
 use Rattle.flat.proofs.Alls.{all_at, all_of, each_weaker}
 use Rattle.flat.proofs.Agreement.{before, answer_same, starts_same, runs_same, beat_same, beat_keeps}
 

@@ -1,22 +1,22 @@
 -- The small programs.
-use Rattle.std.proofs.Common.{◌≡◌, ℕ, zero, suc, ◌<◌, ◌≤◌, Bool, true, false, cond, not, T, List, [], ◌∷◌, ◌++◌, map, length, get_or, ℤ, pos, negsuc, Some, None, Option, sym, refl, ap, ◌∙◌, subst, ap₂, arith}
+use Rattle.std.proofs.Common.{◌≡◌, ℕ, zero, suc, ◌<◌, Bool, true, false, cond, not, T, List, [], ◌∷◌, map, length, get_or, ℤ, pos, negsuc, Some, None, Option, sym, refl, ap, ◌∙◌, subst, ap₂, arith}
 use mathlib.Core.Bool.{beq}
 use Rattle.std.specs.List.{AllZip, AllByRecursion as All}
 use Rattle.std.specs.Int.{int_wrap}
-use Rattle.syntax.specs.declared.cell.UnaryOp.TheVariants.{Not, Minus}
+use Rattle.syntax.specs.declared.cell.UnaryOp.TheVariants.{Not}
 use Rattle.classes.specs.Classes.{joined}
 use Rattle.classes.specs.Systems.{ranked}
 use Rattle.numbers.specs.Points.{points}
 use Rattle.numbers.specs.Integers.{same_z}
 use Rattle.flat.specs.declared.value.Value.{Value}
 use Rattle.flat.specs.declared.value.Value.TheVariants.{Truth, Number}
-use Rattle.flat.specs.Programs.{Program, size, row, clock_flows, needs, sources, Ordered}
+use Rattle.flat.specs.Programs.{Program, size, row, clock_flows, needs, sources}
 use Rattle.flat.specs.Values.{Answers, says, gate, unary_value, binary_value}
-use Rattle.flat.specs.Beats.{Held, renewed, AtInput, Beat, Run, none, beat, History}
+use Rattle.flat.specs.Beats.{Held, renewed, AtInput, Beat, Run, none, beat}
 use Rattle.flat.specs.Typing.{ClockTyped, DefinitionTyped}
 use Rattle.flat.specs.Constraints.{Constraint}
 use Rattle.flat.specs.Secrecy.{Seen}
-use Rattle.flat.specs.Clearing.{In, here, there, Reaches, direct, onward, Marks, passing, least, Leak}
+use Rattle.flat.specs.Clearing.{In, here, there, Reaches, direct, onward, least}
 use Rattle.flat.proofs.Alls.{each_weaker}
 use Rattle.flat.specs.Examples.{negation, tally, shown, pulse, lamp, later, nested, relay, sheet, Negation, Tally, Shown, Clocks, Later, Relay, Values, WorkedExamples}
 

@@ -1,12 +1,12 @@
 -- A constraint holds exactly when each flow that bears on a flow is at or below it; and the classes of clocks.
-use Rattle.std.proofs.Common.{◌≡◌, ℕ, zero, suc, ◌<◌, ◌≤◌, Bool, T, List, [], ◌∷◌, ◌++◌, map, length, get_or, sym, refl, ap, ◌∙◌, arith}
+use Rattle.std.proofs.Common.{◌≡◌, ℕ, zero, suc, ◌<◌, ◌≤◌, Bool, T, List, [], ◌∷◌, map, length, get_or, sym, refl, ap, ◌∙◌, arith}
 use Rattle.std.specs.List.{AllByRecursion as All}
 use Rattle.classes.specs.Classes.{Classes, ClassLaws, joined}
 use Rattle.std.proofs.ByRecursion.{All-map}
 use Rattle.classes.proofs.Joins.{above, least}
 use Rattle.flat.specs.declared.row.Clock.{Clock}
 use Rattle.flat.specs.declared.row.Clock.TheVariants.{Base, On}
-use Rattle.flat.specs.Programs.{Definition, input, plain, delay, Program, size, row, exp_flows, control_flows, clock_flow, chain, clock_flows, needs_of, needs, sources_of, Ordered}
+use Rattle.flat.specs.Programs.{Definition, input, plain, delay, Program, size, row, exp_flows, control_flows, clock_flow, chain, clock_flows, needs_of, sources_of, Ordered}
 use Rattle.flat.specs.Constraints.{exp_class, control_class, clock_class, required, ClockClasses, OrderedClockClasses}
 use Rattle.flat.proofs.Alls.{map_all, all_left, all_right, all_both}
 use Rattle.flat.proofs.Agreement.{before}

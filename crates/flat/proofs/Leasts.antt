@@ -1,13 +1,13 @@
 -- The least classes of inner flows.
-use Rattle.std.proofs.Common.{◌≡◌, ℕ, zero, suc, ◌+◌, ◌<◌, ◌≤◌, Bool, true, false, cond, T, ltb, ◌⊎◌, ◌↔◌, List, [], ◌∷◌, map, sym, refl, ◌∙◌, subst, inl, inr, arith}
+use Rattle.std.proofs.Common.{◌≡◌, ℕ, zero, suc, ◌+◌, ◌<◌, ◌≤◌, Bool, true, false, cond, T, ltb, ◌⊎◌, List, ◌∷◌, map, sym, ◌∙◌, subst, inl, inr, arith}
 use Rattle.std.specs.List.{AllByRecursion as All}
 use Rattle.std.proofs.lemmas.Bool.{lt-ltb, le-ltb, cond-true, cond-false, cases_lt, cases_order}
 use Rattle.classes.specs.Classes.{Classes, ClassLaws, joined}
 use Rattle.flat.specs.declared.row.Clock.{Clock}
-use Rattle.flat.specs.Programs.{Definition, input, plain, delay, Program, size, row, sources, sources_of, clock_flows}
+use Rattle.flat.specs.Programs.{Definition, input, plain, delay, Program, size, row, sources, clock_flows}
 use Rattle.flat.specs.Beats.{AtInput}
 use Rattle.flat.specs.Constraints.{clock_class, required, Constraint, Meets, Assigns}
-use Rattle.flat.specs.Clearing.{In, Reaches, direct, onward, Marks, passing, reaching, least, MeetsInner, Clearable, Leak, ExactlyCleared, ExactClearing, AboveReaching, AtDefined, OutputsAbove, InputRule, InputClocks, ClearedWithoutJoins, ClearingWithoutJoins}
+use Rattle.flat.specs.Clearing.{In, Reaches, direct, onward, Marks, passing, reaching, least, MeetsInner, Clearable, Leak, ExactlyCleared, ExactClearing, AboveReaching, AtDefined, ClearedWithoutJoins, ClearingWithoutJoins}
 use Rattle.flat.proofs.Alls.{all_at, all_of}
 use Rattle.flat.proofs.Joins.{parts, whole, required_parts, required_whole}
 use Rattle.flat.proofs.Reach.{from_main}

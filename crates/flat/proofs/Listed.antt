@@ -1,13 +1,13 @@
 -- The flows of a tree and those of the cells that list it.
-use Rattle.std.proofs.Common.{◌≡◌, ℕ, List, [], ◌∷◌, ◌++◌, sym, refl, ap, ◌∙◌, ap₂}
+use Rattle.std.proofs.Common.{◌≡◌, List, [], ◌∷◌, ◌++◌, sym, refl, ap, ◌∙◌, ap₂}
 use Rattle.std.proofs.lemmas.List.{append-nil, append_assoc}
 use Rattle.syntax.specs.Encoder.{joined}
 use Rattle.syntax.specs.declared.cell.Cell.{Cell}
 use Rattle.syntax.specs.declared.cell.Cell.TheVariants.{Unary, Binary, When, Merge, If}
 use Rattle.rules.specs.Names.{cell_flows}
 use Rattle.rules.specs.Definitions.{cells_flows}
-use Rattle.rules.specs.Trees.{Exp, Control, flow, truth, number, unary, binary, when, simple, merge, choose, exp_cells, control_cells}
-use Rattle.flat.specs.Programs.{exp_flows, control_flows}
+use Rattle.rules.specs.Trees.{Exp, flow, truth, number, unary, binary, when, simple, merge, choose, exp_cells, control_cells}
+use Rattle.flat.specs.Programs.{exp_flows}
 use Rattle.flat.specs.Listings.{FlowsAreListed}
 
 -- the flows of two lists of cells

@@ -1,10 +1,10 @@
 -- Noninterference.
-use Rattle.std.proofs.Common.{◌≡◌, ℕ, ◌<◌, T, List, sym, subst}
+use Rattle.std.proofs.Common.{ℕ, ◌<◌, T, sym, subst}
 use Rattle.classes.specs.Classes.{Classes, ClassLaws}
 use Rattle.numbers.specs.Reckonings.{Reckonings}
-use Rattle.flat.specs.Programs.{Definition, input, plain, delay, Program, size, row, sources, Ordered}
+use Rattle.flat.specs.Programs.{Definition, input, plain, delay, Program, row}
 use Rattle.flat.specs.Beats.{AtInput}
-use Rattle.flat.specs.Constraints.{required, Meets}
+use Rattle.flat.specs.Constraints.{required}
 use Rattle.flat.specs.Secrecy.{Seen, AlikeBelow, Noninterference}
 use Rattle.flat.specs.Cleared.{SameMain, ClearedNoninterference}
 use Rattle.flat.proofs.Alls.{each_weaker}

@@ -1,5 +1,5 @@
 -- In a typed program a flow is present just where its clock is.
-use Rattle.std.proofs.Common.{◌≡◌, ℕ, zero, suc, ◌<◌, ◌≤◌, Bool, true, false, cond, ◌&&◌, T, leb, List, [], ◌∷◌, ◌++◌, length, get_or, ℤ, pos, Some, None, Option, sym, refl, ap, ◌∙◌, subst, arith}
+use Rattle.std.proofs.Common.{◌≡◌, ℕ, zero, suc, ◌<◌, ◌≤◌, Bool, true, false, cond, ◌&&◌, T, List, [], ◌∷◌, ◌++◌, length, get_or, ℤ, pos, Some, None, Option, sym, refl, ap, ◌∙◌, subst, arith}
 use Rattle.std.specs.List.{AllByRecursion as All}
 use Rattle.syntax.specs.declared.cell.UnaryOp.{UnaryOp}
 use Rattle.syntax.specs.declared.cell.UnaryOp.TheVariants.{Not, Minus}
@@ -11,13 +11,13 @@ use Rattle.numbers.specs.Reckonings.{Reckonings}
 use Rattle.rules.specs.Kinds.{constant_kind}
 use Rattle.rules.specs.Trees.{Exp, Control, flow, truth, number, unary, binary, when, simple, merge, choose}
 use Rattle.flat.specs.declared.row.Clock.{Clock}
-use Rattle.flat.specs.declared.row.Clock.TheVariants.{Base, On}
+use Rattle.flat.specs.declared.row.Clock.TheVariants.{On}
 use Rattle.flat.specs.declared.value.Value.{Value}
 use Rattle.flat.specs.declared.value.Value.TheVariants.{Truth, Number}
-use Rattle.flat.specs.Programs.{Definition, input, plain, delay, Program, size, row, exp_flows, control_flows, clock_flow, clock_flows, needs_of, needs, sources, sources_of, Ordered}
+use Rattle.flat.specs.Programs.{Definition, input, plain, delay, Program, size, row, exp_flows, control_flows, clock_flow, needs_of, needs, sources, Ordered}
 use Rattle.flat.specs.Values.{Answers, read_as, constant_value, says, gate, unary_value, combined, binary_value, picked, exp_value, control_value, on}
-use Rattle.flat.specs.Beats.{Held, due, renewed, AtDelay, Beat, Starts, Run, none, beat, History}
-use Rattle.flat.specs.Typing.{unary_takes, binary_takes, binary_gives, ExpTyped, ControlTyped, ClockTyped, DefinitionTyped, Typed, OfKind, Gives, Timely, TimelyAt, HeldKinds, PresentFlows, Presence, OrderedPresentFlows}
+use Rattle.flat.specs.Beats.{Held, due, renewed, AtDelay, Beat, Run, none, beat}
+use Rattle.flat.specs.Typing.{unary_takes, binary_takes, binary_gives, ExpTyped, ControlTyped, DefinitionTyped, Typed, OfKind, Gives, Timely, TimelyAt, HeldKinds, PresentFlows, Presence, OrderedPresentFlows}
 use Rattle.flat.proofs.Alls.{all_at, all_of, all_left, all_right}
 use Rattle.flat.proofs.Agreement.{before, needed, delay_part}
 

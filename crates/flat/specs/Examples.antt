@@ -5,10 +5,9 @@ use Rattle.std.specs.List.{AllZip}
 use Rattle.syntax.specs.declared.cell.UnaryOp.TheVariants.{Not, Minus}
 use Rattle.syntax.specs.declared.header.Kind.TheVariants as kind
 use Rattle.syntax.specs.declared.header.Constant.TheVariants as constant
-use Rattle.classes.specs.Classes.{Classes}
 use Rattle.classes.specs.Systems.{ranked}
 use Rattle.numbers.specs.Points.{points}
-use Rattle.rules.specs.Trees.{Control, flow, truth, number, unary, binary, when, simple, merge, choose}
+use Rattle.rules.specs.Trees.{flow, truth, number, unary, binary, when, simple, merge, choose}
 use Rattle.flat.specs.declared.row.Clock.TheVariants.{Base, On}
 use Rattle.flat.specs.declared.value.Value.{Value}
 use Rattle.flat.specs.declared.value.Value.TheVariants.{Truth, Number}
@@ -16,7 +15,6 @@ use Rattle.flat.specs.Programs.{input, plain, delay, Program, Ordered}
 use Rattle.flat.specs.Values.{Answers, control_value}
 use Rattle.flat.specs.Beats.{Held, History, SameAnswers, SameHeld}
 use Rattle.flat.specs.Typing.{Typed}
-use Rattle.flat.specs.Constraints.{Meets}
 use Rattle.flat.specs.Secrecy.{AlikeBelow, SameBelow, HeldBelow}
 use Rattle.flat.specs.Clearing.{Reaches, Marks, least, Clearable, Leak, InputClocks}
 use Rattle.flat.specs.Cleared.{MainInputs}

@@ -1,5 +1,5 @@
 -- Expanded programs: one row for each flow, and which flows a row names.
-use Rattle.std.specs.Prelude.{◌≡◌, ℕ, zero, suc, ◌<◌, Bool, List, [], ◌∷◌, ◌++◌, length, slice_index, slice_index_or}
+use Rattle.std.specs.Prelude.{◌≡◌, ℕ, zero, suc, ◌<◌, List, [], ◌∷◌, ◌++◌, length, slice_index, slice_index_or}
 use Rattle.std.specs.List.{AllByRecursion as All}
 use Rattle.syntax.specs.declared.header.Kind.{Kind}
 use Rattle.syntax.specs.declared.header.Kind.TheVariants as kind

@@ -5,7 +5,6 @@ use Rattle.syntax.specs.declared.cell.UnaryOp.{UnaryOp}
 use Rattle.syntax.specs.declared.cell.UnaryOp.TheVariants.{Not, Minus}
 use Rattle.syntax.specs.declared.header.Kind.{Kind}
 use Rattle.syntax.specs.declared.header.Kind.TheVariants as kind
-use Rattle.syntax.specs.declared.header.Constant.{Constant}
 use Rattle.numbers.specs.Reckonings.{Reckonings}
 use Rattle.rules.specs.Kinds.{constant_kind}
 use Rattle.rules.specs.Trees.{Exp, Control, flow, truth, number, unary, binary, when, simple, merge, choose}

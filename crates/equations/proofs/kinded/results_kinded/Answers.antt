@@ -4,4 +4,4 @@ use Rattle.equations.proofs.kinded.results_kinded.Goals as goal
 
 pub returns : goal.returns
 returns c =
-    results_pass (node_of c.args.node.now) (node_of c.args.callee.now) _ _ c.args.results.now _ c.all-of.ensures c.after-inputs.ensures c.counted.ensures.part
+    results_pass (node_of c.args.node.now) (node_of c.args.callee.now) _ _ c.args.results.now _ c.all_of.ensures c.after_inputs.ensures c.counted.ensures.part

@@ -8,5 +8,5 @@ use Rattle.equations.proofs.shaped.equation_shaped.Goals as goal
 pub returns-in-Call : goal.returns-in-Call
 returns-in-Call c =
     let cells = c.args.node.now.cells.now in
-    spans_pass cells c.in-Call.arguments _ (λ i e. is_exp (tree_of e)) _ c.all-of.ensures c.counted.ensures.part
+    spans_pass cells c.in-Call.arguments _ (λ i e. is_exp (tree_of e)) _ c.all_of.ensures c.counted.ensures.part
     ∙ sym (ap (λ f. form_shaped (form_in cells f)) c.in-Call.is)

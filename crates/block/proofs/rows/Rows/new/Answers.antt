@@ -6,7 +6,7 @@ use Rattle.block.proofs.rows.Rows.new.Goals as goal
 
 pub invariant_of-result : goal.invariant_of-result
 unfolding block_in
-invariant_of-result c = (refl, ((λ i h. ap is_blank (c.blank_all.ensures i)), tt))
+invariant_of-result c = record { from_read = refl; past_blank = λ i h. ap is_blank (c.blank_all.ensures i) }
 
 pub returns : goal.returns
 unfolding block_in blank_node

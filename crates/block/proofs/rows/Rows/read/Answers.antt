@@ -9,7 +9,10 @@ invariant_of-self c =
     let n = length c.args.self.now.table.store.cells.now in
     let bs = c.args.bytes.now in
     let t = c.read.new.table in
-    ((ap readable (read_stands n bs t c.read.ensures.rows) ∙ read_readable n bs (λ j. omega (arith, c.type_inv.bytes j))), (held_past t _ c.read.ensures.rows, tt))
+    record {
+      from_read = ap readable (read_stands n bs t c.read.ensures.rows) ∙ read_readable n bs (λ j. omega (arith, c.type_inv.bytes j));
+      past_blank = held_past t _ c.read.ensures.rows;
+    }
 
 pub returns : goal.returns
 returns c =
