@@ -1,4 +1,4 @@
-use Rattle.std.proofs.Common.{◌≡◌, length, sym, ap, ◌∙◌, arith}
+use Rattle.std.proofs.Common.{length, sym, ap, ◌∙◌, arith}
 use Rattle.syntax.specs.Encoder.{encode}
 use Rattle.layout.specs.Held.{readable}
 use Rattle.block.proofs.Keeping.{held_past, read_stands, read_readable, read_back}

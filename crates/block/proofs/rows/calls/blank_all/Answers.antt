@@ -1,4 +1,4 @@
-use Rattle.std.proofs.Common.{◌+◌, ◌<◌, ◌≤◌, inr, ⊎_elim, arith}
+use Rattle.std.proofs.Common.{◌+◌, inr, arith}
 use Rattle.layout.proofs.Blanking.{blanked_more, blanked_all}
 use Rattle.block.proofs.rows.calls.blank_all.Goals as goal
 
