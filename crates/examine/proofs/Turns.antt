@@ -1,8 +1,8 @@
 -- Turns of the loops over equations, nodes and checks.
-use Rattle.std.proofs.Common.{◌≡◌, ℕ, suc, ◌+◌, ◌-◌, ◌<◌, ◌≤◌, Bool, true, false, List, [], ◌∷◌, ◌++◌, length, get_or, drop, Some, None, Ok, Err, Decides, Option, Result, sym, refl, ap, ◌∙◌, subst, arith}
+use Rattle.std.proofs.Common.{◌≡◌, ℕ, suc, ◌+◌, ◌-◌, ◌<◌, ◌≤◌, Bool, true, false, ◌∷◌, ◌++◌, length, get_or, drop, Some, None, Ok, Err, Decides, Option, sym, refl, ap, ◌∙◌, subst, arith}
 use Rattle.std.proofs.lemmas.List.{length-map, at_drop_more, at_drop_all}
 use Rattle.std.proofs.lemmas.Bool.Decides.{not_from_Decides}
-use Rattle.syntax.specs.Syntax.{NodeSyntax, BlockSyntax}
+use Rattle.syntax.specs.Syntax.{BlockSyntax}
 use Rattle.syntax.specs.Encoder.{joined}
 use Rattle.layout.specs.declared.node.Equation.{Equation}
 use Rattle.layout.specs.Layout.{equation_in}

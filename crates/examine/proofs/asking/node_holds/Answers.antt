@@ -5,7 +5,7 @@ use Rattle.examine.proofs.asking.node_holds.Goals as goal
 
 pub returns-in-Fit : goal.returns-in-Fit
 returns-in-Fit c =
-    node_decided (block_of c.args.block.now) c.args.k (node_of c.args.node.now) _ _ Fit c.in-Fit.is (decides_test _ _ c.node-fits.ensures)
+    node_decided (block_of c.args.block.now) c.args.k (node_of c.args.node.now) _ _ Fit c.in-Fit.is (decides_test _ _ c.node_fits.ensures)
 
 pub returns-in-Kinds : goal.returns-in-Kinds
 returns-in-Kinds c =
@@ -13,7 +13,7 @@ returns-in-Kinds c =
 
 pub returns-in-Clocks : goal.returns-in-Clocks
 returns-in-Clocks c =
-    node_decided (block_of c.args.block.now) c.args.k (node_of c.args.node.now) _ _ Clocks c.in-Clocks.is (decides_test _ _ c.node-clocked.ensures)
+    node_decided (block_of c.args.block.now) c.args.k (node_of c.args.node.now) _ _ Clocks c.in-Clocks.is (decides_test _ _ c.node_clocked.ensures)
 
 pub returns-in-Definitions : goal.returns-in-Definitions
 returns-in-Definitions c =
@@ -25,4 +25,4 @@ returns-in-Size c =
 
 pub returns-in-Cycles : goal.returns-in-Cycles
 returns-in-Cycles c =
-    node_decided (block_of c.args.block.now) c.args.k (node_of c.args.node.now) _ _ Cycles c.in-Cycles.is (cycle_decided c.args.block.now c.args.k _ _ _ c.requires.inside c.requires.node c.has-no-cycle.ensures)
+    node_decided (block_of c.args.block.now) c.args.k (node_of c.args.node.now) _ _ Cycles c.in-Cycles.is (cycle_decided c.args.block.now c.args.k _ _ _ c.requires.inside c.requires.node c.has_no_cycle.ensures)
