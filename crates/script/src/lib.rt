@@ -1,5 +1,6 @@
 // Scripts: their words, what a line asks for, and the lines that answer it.
 #![tactic(auto)]
+
 pub mod answer;
 pub mod command;
 pub mod fault;
