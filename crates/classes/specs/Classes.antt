@@ -1,6 +1,6 @@
 -- What a system of classes is, and what holds of any.
 use Rattle.std.specs.Prelude.{◌≡◌, ℕ, Bool, true, ◌&&◌, T, List, [], ◌∷◌, Option}
-use Rattle.std.specs.List.{AllByRecursion as All}
+use Rattle.std.specs.List.{AllByRecursion}
 
 -- the answers of a system whose classes are of type C
 pub record Classes (C : Type 0) : Type 0 where
@@ -37,7 +37,7 @@ joined m (x ∷ xs) = m.join x (joined m xs)
 
 -- z is at or above each class of a list
 abbrev pub UpperBound : {C : Type 0} → Classes C → List C → C → Type 0
-UpperBound m xs z = All (λ x. T (m.below x z)) xs
+UpperBound m xs z = AllByRecursion (λ x. T (m.below x z)) xs
 
 -- the same, as a test
 abbrev pub all_below : {C : Type 0} → Classes C → List C → C → Bool

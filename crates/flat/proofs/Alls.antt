@@ -1,30 +1,30 @@
 -- What holds of each member of a list.
 use Rattle.std.proofs.Common.{List, [], ◌∷◌, ◌++◌, map}
-use Rattle.std.specs.List.{AllZip, AllByRecursion as All}
+use Rattle.std.specs.List.{AllZip, AllByRecursion}
 use Rattle.flat.specs.Clearing.{In, here, there}
 
 module _ {A : Type 0} (P : A → Type 0) where
-  pub all_at : {x : A} {xs : List A} → In x xs → All P xs → P x
+  pub all_at : {x : A} {xs : List A} → In x xs → AllByRecursion P xs → P x
   all_at here h = h.0
   all_at (there i) h = all_at i h.1
 
-  pub all_of : (xs : List A) → ((x : A) → In x xs → P x) → All P xs
+  pub all_of : (xs : List A) → ((x : A) → In x xs → P x) → AllByRecursion P xs
   all_of [] f = tt
   all_of (x ∷ xs) f = (f x here, all_of xs (λ y i. f y (there i)))
 
-  pub all_left : (xs ys : List A) → All P (xs ++ ys) → All P xs
+  pub all_left : (xs ys : List A) → AllByRecursion P (xs ++ ys) → AllByRecursion P xs
   all_left [] ys h = tt
   all_left (x ∷ xs) ys h = (h.0, all_left xs ys h.1)
 
-  pub all_right : (xs ys : List A) → All P (xs ++ ys) → All P ys
+  pub all_right : (xs ys : List A) → AllByRecursion P (xs ++ ys) → AllByRecursion P ys
   all_right [] ys h = h
   all_right (x ∷ xs) ys h = all_right xs ys h.1
 
-  pub all_both : (xs ys : List A) → All P xs → All P ys → All P (xs ++ ys)
+  pub all_both : (xs ys : List A) → AllByRecursion P xs → AllByRecursion P ys → AllByRecursion P (xs ++ ys)
   all_both [] ys h k = k
   all_both (x ∷ xs) ys h k = (h.0, all_both xs ys h.1 k)
 
-  pub map_all : {B : Type 0} (f : B → A) (ys : List B) → All P (map f ys) → All (λ y. P (f y)) ys
+  pub map_all : {B : Type 0} (f : B → A) (ys : List B) → AllByRecursion P (map f ys) → AllByRecursion (λ y. P (f y)) ys
   map_all f [] h = tt
   map_all f (y ∷ ys) h = (h.0, map_all f ys h.1)
 

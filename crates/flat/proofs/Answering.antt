@@ -1,6 +1,6 @@
 -- Every beat has one answer, and every list of readings one history.
 use Rattle.std.proofs.Common.{◌≡◌, ℕ, zero, suc, ◌<◌, false, cond, List, [], ◌∷◌, ◌++◌, length, get_or, ℤ, pos, None, refl, arith}
-use Rattle.std.specs.List.{AllZip, AllByRecursion as All}
+use Rattle.std.specs.List.{AllZip, AllByRecursion}
 use Rattle.numbers.specs.Reckonings.{Reckonings}
 use Rattle.flat.specs.declared.value.Value.{Value}
 use Rattle.flat.specs.declared.value.Value.TheVariants.{Truth}
@@ -77,7 +77,7 @@ module _ {N : Type 0} (r : Reckonings N) (p : Program) (order : List ℕ) (o : O
       (told held i ∷ rest.0, rest.1, beat (a_beat held i) rest.2)
 
   -- all flows agree, since all are closed under what bears on them
-  all_closed : (x : ℕ) → x < size p → Unit {0} → All (λ d. Unit {0}) (sources p x)
+  all_closed : (x : ℕ) → x < size p → Unit {0} → AllByRecursion (λ d. Unit {0}) (sources p x)
   all_closed x h u = all_of (λ d. Unit {0}) (sources p x) (λ d i. tt)
 
   reads_same : (is : List (List ℤ)) → AllZip (λ i j. (x : ℕ) → x < size p → Unit {0} → AtInput (get_or i x (pos 0) ≡ get_or j x (pos 0)) (row p x).definition) is is

@@ -1,7 +1,7 @@
 -- The small programs.
 use Rattle.std.proofs.Common.{◌≡◌, ℕ, zero, suc, ◌<◌, Bool, true, false, cond, not, T, List, [], ◌∷◌, map, length, get_or, ℤ, pos, negsuc, Some, None, Option, sym, refl, ap, ◌∙◌, subst, ap₂, arith}
 use mathlib.Core.Bool.{beq}
-use Rattle.std.specs.List.{AllZip, AllByRecursion as All}
+use Rattle.std.specs.List.{AllZip, AllByRecursion}
 use Rattle.std.specs.Int.{int_wrap}
 use Rattle.syntax.specs.declared.cell.UnaryOp.TheVariants.{Not}
 use Rattle.classes.specs.Classes.{joined}
@@ -48,10 +48,10 @@ abbrev Stands : List ℕ → ℕ → Type 0
 Stands order x = (i : ℕ) × (i < length order) × (get_or order i 0 ≡ x)
 
 abbrev After : Program → List ℕ → ℕ → Type 0
-After p order i = All (λ d. (j : ℕ) × (j < i) × (get_or order j 0 ≡ d)) (needs p (get_or order i 0))
+After p order i = AllByRecursion (λ d. (j : ℕ) × (j < i) × (get_or order j 0 ≡ d)) (needs p (get_or order i 0))
 
 abbrev Named : Program → ℕ → Type 0
-Named p x = All (λ d. d < size p) (sources p x)
+Named p x = AllByRecursion (λ d. d < size p) (sources p x)
 
 abbrev TypedAt : Program → ℕ → Type 0
 TypedAt p x = ClockTyped p (row p x).clock × DefinitionTyped p (row p x).kind (row p x).clock (row p x).definition
@@ -296,7 +296,7 @@ clocked = record {
   };
   nested_typed = under_three (TypedAt nested) (refl, tt) (refl, tt) (tt, tt);
   nested_inputs = (
-    under_three (λ x. AtInput (All (λ d. d < 3) (clock_flows nested (row nested x).clock)) (row nested x).definition) (omega arith, (omega arith, tt)) (omega arith, tt) tt,
+    under_three (λ x. AtInput (AllByRecursion (λ d. d < 3) (clock_flows nested (row nested x).clock)) (row nested x).definition) (omega arith, (omega arith, tt)) (omega arith, tt) tt,
     under_three (λ x. AtInput (x < 3) (row nested x).definition) (omega arith) (omega arith) (omega arith),
   );
   nested_answers = λ as' last H. nested_run H.run;

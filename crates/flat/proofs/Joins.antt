@@ -1,6 +1,6 @@
 -- A constraint holds exactly when each flow that bears on a flow is at or below it; and the classes of clocks.
 use Rattle.std.proofs.Common.{◌≡◌, ℕ, zero, suc, ◌<◌, ◌≤◌, Bool, T, List, [], ◌∷◌, map, length, get_or, sym, refl, ap, ◌∙◌, arith}
-use Rattle.std.specs.List.{AllByRecursion as All}
+use Rattle.std.specs.List.{AllByRecursion}
 use Rattle.classes.specs.Classes.{Classes, ClassLaws, joined}
 use Rattle.std.proofs.ByRecursion.{All-map}
 use Rattle.classes.proofs.Joins.{above, least}
@@ -21,13 +21,13 @@ module _ {C : Type 0} {m : Classes C} (laws : ClassLaws m) (class : ℕ → C) (
   second_part : (x y : C) → T (m.below (m.join x y) t) → T (m.below y t)
   second_part x y h = laws.transitive y (m.join x y) t (laws.join_second x y) h
 
-  pub parts : (ds : List ℕ) → T (m.below (joined m (map class ds)) t) → All Low ds
+  pub parts : (ds : List ℕ) → T (m.below (joined m (map class ds)) t) → AllByRecursion Low ds
   parts ds h = map_all (λ c. T (m.below c t)) class ds (above laws (map class ds) t h)
 
-  pub whole : (ds : List ℕ) → All Low ds → T (m.below (joined m (map class ds)) t)
+  pub whole : (ds : List ℕ) → AllByRecursion Low ds → T (m.below (joined m (map class ds)) t)
   whole ds h = least laws (map class ds) t (All-map (λ c. T (m.below c t)) class ds h)
 
-  pub required_parts : (p : Program) (k : Clock) (d : Definition) → T (m.below (required m p class k d) t) → All Low (sources_of p k d)
+  pub required_parts : (p : Program) (k : Clock) (d : Definition) → T (m.below (required m p class k d) t) → AllByRecursion Low (sources_of p k d)
   required_parts p k input h = parts (clock_flows p k) h
   required_parts p k (plain c) h =
       all_both Low (clock_flows p k) (control_flows c)
@@ -38,7 +38,7 @@ module _ {C : Type 0} {m : Classes C} (laws : ClassLaws m) (class : ℕ → C) (
       (parts (clock_flows p k) (first_part (clock_class m p class k) (exp_class m class e) h))
       (parts (exp_flows e) (second_part (clock_class m p class k) (exp_class m class e) h))
 
-  pub required_whole : (p : Program) (k : Clock) (d : Definition) → All Low (sources_of p k d) → T (m.below (required m p class k d) t)
+  pub required_whole : (p : Program) (k : Clock) (d : Definition) → AllByRecursion Low (sources_of p k d) → T (m.below (required m p class k d) t)
   required_whole p k input h = whole (clock_flows p k) h
   required_whole p k (plain c) h =
       laws.join_least (clock_class m p class k) (control_class m class c) t
@@ -50,7 +50,7 @@ module _ {C : Type 0} {m : Classes C} (laws : ClassLaws m) (class : ℕ → C) (
       (whole (exp_flows e) (all_right Low (clock_flows p k) (exp_flows e) h))
 
 -- a chain is no longer than its place in the order
-own_need : (P : ℕ → Type 0) (k : Clock) (d : Definition) → All P (needs_of k d) → All P (clock_flow k)
+own_need : (P : ℕ → Type 0) (k : Clock) (d : Definition) → AllByRecursion P (needs_of k d) → AllByRecursion P (clock_flow k)
 own_need P k input h = h
 own_need P k (plain c) h = all_left P (clock_flow k) (control_flows c) h
 own_need P k (delay v e) h = h
@@ -60,7 +60,7 @@ module _ {p : Program} {order : List ℕ} (o : Ordered p order) where
   chain_base zero = refl
   chain_base (suc n) = refl
 
-  longer : (i n l : ℕ) (k : Clock) → All (λ d. (j : ℕ) × (j < i) × (get_or order j 0 ≡ d)) (clock_flow k)
+  longer : (i n l : ℕ) (k : Clock) → AllByRecursion (λ d. (j : ℕ) × (j < i) × (get_or order j 0 ≡ d)) (clock_flow k)
       → ((j y n l : ℕ) → j < i → get_or order j 0 ≡ y → j ≤ n → j ≤ l → chain p n (row p y).clock ≡ chain p l (row p y).clock)
       → i ≤ n → i ≤ l → chain p n k ≡ chain p l k
   longer i n l Base f rec a b = chain_base n ∙ sym (chain_base l)

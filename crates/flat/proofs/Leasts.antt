@@ -1,6 +1,6 @@
 -- The least classes of inner flows.
 use Rattle.std.proofs.Common.{◌≡◌, ℕ, zero, suc, ◌+◌, ◌<◌, ◌≤◌, Bool, true, false, cond, T, ltb, ◌⊎◌, List, ◌∷◌, map, sym, ◌∙◌, subst, inl, inr, arith}
-use Rattle.std.specs.List.{AllByRecursion as All}
+use Rattle.std.specs.List.{AllByRecursion}
 use Rattle.std.proofs.lemmas.Bool.{lt-ltb, le-ltb, cond-true, cond-false, cases_lt, cases_order}
 use Rattle.classes.specs.Classes.{Classes, ClassLaws, joined}
 use Rattle.flat.specs.declared.row.Clock.{Clock}
@@ -14,21 +14,21 @@ use Rattle.flat.proofs.Reach.{from_main}
 
 -- ---- the numbers that pass a test
 
-kept : (P : ℕ → Type 0) (b : Bool) (k : ℕ) (ks : List ℕ) → (T b → P k) → All P ks → All P (cond b (k ∷ ks) ks)
+kept : (P : ℕ → Type 0) (b : Bool) (k : ℕ) (ks : List ℕ) → (T b → P k) → AllByRecursion P ks → AllByRecursion P (cond b (k ∷ ks) ks)
 kept P true k ks f h = (f tt, h)
 kept P false k ks f h = h
 
-passing_all : (P : ℕ → Type 0) (t : ℕ → Bool) (k n : ℕ) → ((d : ℕ) → d < k + n → T (t d) → P d) → All P (passing t k n)
+passing_all : (P : ℕ → Type 0) (t : ℕ → Bool) (k n : ℕ) → ((d : ℕ) → d < k + n → T (t d) → P d) → AllByRecursion P (passing t k n)
 passing_all P t k zero f = tt
 passing_all P t k (suc n) f =
     kept P (t k) k (passing t (suc k) n) (f k (omega arith)) (passing_all P t (suc k) n (λ d l h. f d (omega arith) h))
 
-passing_one : (P : ℕ → Type 0) (t : ℕ → Bool) (k n : ℕ) → All P (passing t k n) → (d : ℕ) → k ≤ d → d < k + n → T (t d) → P d
+passing_one : (P : ℕ → Type 0) (t : ℕ → Bool) (k n : ℕ) → AllByRecursion P (passing t k n) → (d : ℕ) → k ≤ d → d < k + n → T (t d) → P d
 passing_one P t k zero h d a b c = absurd (omega arith)
 passing_one P t k (suc n) h d a b c = by (t k) (λ e. subst (λ z. T (t z)) e c) h (cases_order d k) (passing_one P t (suc k) n)
   where
-    by : (s : Bool) → (d ≡ k → T s) → All P (cond s (k ∷ passing t (suc k) n) (passing t (suc k) n)) → (d ≡ k) ⊎ ((d < k) ⊎ (k < d))
-        → (All P (passing t (suc k) n) → (d : ℕ) → suc k ≤ d → d < suc k + n → T (t d) → P d) → P d
+    by : (s : Bool) → (d ≡ k → T s) → AllByRecursion P (cond s (k ∷ passing t (suc k) n) (passing t (suc k) n)) → (d ≡ k) ⊎ ((d < k) ⊎ (k < d))
+        → (AllByRecursion P (passing t (suc k) n) → (d : ℕ) → suc k ≤ d → d < suc k + n → T (t d) → P d) → P d
     by true g h (inl e) rec = subst P (sym e) h.0
     by true g h (inr (inl e)) rec = absurd (omega arith)
     by true g h (inr (inr e)) rec = rec h.1 d e (omega arith) c
@@ -187,7 +187,7 @@ module _ {C : Type 0} {m : Classes C} (laws : ClassLaws m) (p : Program) (has : 
   at_defined P (delay v e) h = h
 
   -- a clock that goes by main flows alone has the same class either way
-  input_to_given : (k : Clock) (x : ℕ) → x < p.main → (d : Definition) → AtInput (All (λ d. d < p.main) (clock_flows p k)) d
+  input_to_given : (k : Clock) (x : ℕ) → x < p.main → (d : Definition) → AtInput (AllByRecursion (λ d. d < p.main) (clock_flows p k)) d
       → T (m.below (required m p found k d) (found x)) → AtInput (T (m.below (clock_class m p given k) (given x))) d
   input_to_given k x l input mains h =
       whole laws given (given x) (clock_flows p k) (all_of (λ d. given d ⊑ given x) (clock_flows p k) (λ d i.
@@ -197,7 +197,7 @@ module _ {C : Type 0} {m : Classes C} (laws : ClassLaws m) (p : Program) (has : 
   input_to_given k x l (delay v e) mains h = tt
 
   -- the constraint of a main flow by the two rules
-  by_rules : (k : Clock) (x : ℕ) → x < p.main → (d : Definition) → AtInput (All (λ d. d < p.main) (clock_flows p k)) d
+  by_rules : (k : Clock) (x : ℕ) → x < p.main → (d : Definition) → AtInput (AllByRecursion (λ d. d < p.main) (clock_flows p k)) d
       → (AboveReaching m p given x → T (m.below (required m p found k d) (found x)))
       → AtDefined (AboveReaching m p given x) d → AtInput (T (m.below (clock_class m p given k) (given x))) d
       → T (m.below (required m p found k d) (found x))

@@ -1,6 +1,6 @@
 -- In a typed program a flow is present just where its clock is.
 use Rattle.std.proofs.Common.{◌≡◌, ℕ, zero, suc, ◌<◌, ◌≤◌, Bool, true, false, cond, ◌&&◌, T, List, [], ◌∷◌, ◌++◌, length, get_or, ℤ, pos, Some, None, Option, sym, refl, ap, ◌∙◌, subst, arith}
-use Rattle.std.specs.List.{AllByRecursion as All}
+use Rattle.std.specs.List.{AllByRecursion}
 use Rattle.syntax.specs.declared.cell.UnaryOp.{UnaryOp}
 use Rattle.syntax.specs.declared.cell.UnaryOp.TheVariants.{Not, Minus}
 use Rattle.syntax.specs.declared.header.Kind.{Kind}
@@ -103,7 +103,7 @@ module _ {N : Type 0} (r : Reckonings N) where
     abbrev At : ℕ → Type 0
     At x = TimelyAt p a x
 
-    exp_fits : (e : Exp) (t : Kind) (k : Clock) → All At (exp_flows e) → ExpTyped p e t k → T (on a k) → Gives t (exp_value r a e)
+    exp_fits : (e : Exp) (t : Kind) (k : Clock) → AllByRecursion At (exp_flows e) → ExpTyped p e t k → T (on a k) → Gives t (exp_value r a e)
     exp_fits (flow x) t k h y l =
         subst (λ t. Gives t (a x)) y.0 (timely_on (row p x).kind (on a (row p x).clock) (a x) (subst (λ k. T (on a k)) (sym y.1) l) h.0)
     exp_fits (truth b) t k h y l = subst (λ t. OfKind {N = N} t (Truth b)) (sym y) tt
@@ -121,7 +121,7 @@ module _ {N : Type 0} (r : Reckonings N) where
         let here_on = side_on (row p x).kind (on a (row p x).clock) s (a x) (all_right At (exp_flows e) (x ∷ []) h).0 side in
         gate_gives t (says s (a x)) (exp_value r a e) side (exp_fits e t (row p x).clock (all_left At (exp_flows e) (x ∷ []) h) y.2 here_on)
 
-    control_fits : (c : Control) (t : Kind) (k : Clock) → All At (control_flows c) → ControlTyped p c t k → T (on a k) → Gives t (control_value r a c)
+    control_fits : (c : Control) (t : Kind) (k : Clock) → AllByRecursion At (control_flows c) → ControlTyped p c t k → T (on a k) → Gives t (control_value r a c)
     control_fits (simple e) t k h y l = exp_fits e t k h y l
     control_fits (merge x c d) t k h y l =
         let rest = all_right At (control_flows c) (control_flows d ++ (x ∷ [])) h in
@@ -137,13 +137,13 @@ module _ {N : Type 0} (r : Reckonings N) where
         (λ s. control_fits c t k (all_left At (control_flows c) (control_flows d) rest) y.1 l)
         (λ s. control_fits d t k (all_right At (control_flows c) (control_flows d) rest) y.2 l)
 
-    due_fits : (held : Held N) (readings : List ℤ) (x : ℕ) (t : Kind) (k : Clock) (d : Definition) → All At (needs_of k d) → DefinitionTyped p t k d
+    due_fits : (held : Held N) (readings : List ℤ) (x : ℕ) (t : Kind) (k : Clock) (d : Definition) → AllByRecursion At (needs_of k d) → DefinitionTyped p t k d
         → AtDelay (λ v e. OfKind t (held x)) d → T (on a k) → Gives t (due r held readings a x t d)
     due_fits held readings x t k input h y kept l = read_fits t (get_or readings x (pos 0))
     due_fits held readings x t k (plain c) h y kept l = control_fits c t k (all_right At (clock_flow k) (control_flows c) h) y l
     due_fits held readings x t k (delay v e) h y kept l = kept
 
-    next_fits : (held next : Held N) (x : ℕ) (t : Kind) (k : Clock) (d : Definition) → AtDelay (λ v e. All At (exp_flows e)) d → DefinitionTyped p t k d
+    next_fits : (held next : Held N) (x : ℕ) (t : Kind) (k : Clock) (d : Definition) → AtDelay (λ v e. AllByRecursion At (exp_flows e)) d → DefinitionTyped p t k d
         → AtDelay (λ v e. OfKind t (held x)) d → AtDelay (λ v e. next x ≡ cond (on a k) (renewed (exp_value r a e) (held x)) (held x)) d
         → AtDelay (λ v e. OfKind t (next x)) d
     next_fits held next x t k input h y kept q = tt
@@ -151,7 +151,7 @@ module _ {N : Type 0} (r : Reckonings N) where
     next_fits held next x t k (delay v e) h y kept q =
         subst (λ w. OfKind t w) (sym q) (renewed_fits t (on a k) (exp_value r a e) (held x) (λ l. exp_fits e t k h y.1 l) kept)
 
-    next_is : (held next : Held N) (x : ℕ) (t : Kind) (k : Clock) (d : Definition) → AtDelay (λ v e. All At (exp_flows e)) d → DefinitionTyped p t k d → T (on a k)
+    next_is : (held next : Held N) (x : ℕ) (t : Kind) (k : Clock) (d : Definition) → AtDelay (λ v e. AllByRecursion At (exp_flows e)) d → DefinitionTyped p t k d → T (on a k)
         → AtDelay (λ v e. next x ≡ cond (on a k) (renewed (exp_value r a e) (held x)) (held x)) d
         → AtDelay (λ v e. exp_value r a e ≡ Some (next x)) d
     next_is held next x t k input h y l q = tt
@@ -179,7 +179,7 @@ module _ {N : Type 0} (r : Reckonings N) where
       timely : (x : ℕ) → x < size p → TimelyAt p a x
       timely x in_p = let s = o.stands x in_p in by_turn (suc s.0) s.0 x (omega arith) s.1 s.2 in_p
 
-      named_fit : (x : ℕ) → x < size p → AtDelay (λ v e. All (TimelyAt p a) (exp_flows e)) (row p x).definition
+      named_fit : (x : ℕ) → x < size p → AtDelay (λ v e. AllByRecursion (TimelyAt p a) (exp_flows e)) (row p x).definition
       named_fit x in_p =
           delay_part (TimelyAt p a) p (row p x).clock (row p x).definition
           (all_of (TimelyAt p a) (sources p x) (λ d i. timely d (all_at (λ d. d < size p) i (o.named x in_p))))
@@ -199,7 +199,7 @@ module _ {N : Type 0} (r : Reckonings N) where
     first_fits held x t k (plain c) y q = tt
     first_fits held x t k (delay v e) y q = subst (λ w. OfKind t w) (sym q) (subst (λ t. OfKind t (constant_value r v)) y.0 (constant_fits v))
 
-    runs_timely : {h h' : Held N} {is : List (List ℤ)} {as' : List (Answers N)} → HeldKinds p h → Run r p h is as' h' → All (λ a. (x : ℕ) → x < size p → TimelyAt p a x) as'
+    runs_timely : {h h' : Held N} {is : List (List ℤ)} {as' : List (Answers N)} → HeldKinds p h → Run r p h is as' h' → AllByRecursion (λ a. (x : ℕ) → x < size p → TimelyAt p a x) as'
     runs_timely kinds none = tt
     runs_timely kinds (beat {held = h} {next = k} {readings = i} {answers = a} B more) =
         let now_it = present h k i a kinds B in

@@ -1,6 +1,6 @@
 -- The least classes of inner flows, and when a program is cleared.
 use Rattle.std.specs.Prelude.{◌≡◌, ℕ, zero, suc, ◌<◌, ◌≤◌, Bool, cond, T, ◌↔◌, List, [], ◌∷◌, map, nat_lt}
-use Rattle.std.specs.List.{AllByRecursion as All}
+use Rattle.std.specs.List.{AllByRecursion}
 use Rattle.classes.specs.Classes.{Classes, joined}
 use Rattle.flat.specs.Programs.{Definition, input, plain, delay, Program, size, row, sources, clock_flows}
 use Rattle.flat.specs.Beats.{AtInput}
@@ -88,7 +88,7 @@ InputRule m p given = (x : ℕ) → x < size p → x < p.main → AtInput (T (m.
 
 -- inputs' clocks go by main flows alone
 abbrev pub InputClocks : Program → Type 0
-InputClocks p = (x : ℕ) → x < size p → AtInput (All (λ d. d < p.main) (clock_flows p (row p x).clock)) (row p x).definition
+InputClocks p = (x : ℕ) → x < size p → AtInput (AllByRecursion (λ d. d < p.main) (clock_flows p (row p x).clock)) (row p x).definition
 
 -- clearing, asked of the given classes and with no join of inner ones
 pub record ClearedWithoutJoins {C : Type 0} (m : Classes C) (p : Program) (given found : ℕ → C) : Type 0 where

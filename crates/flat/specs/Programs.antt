@@ -1,6 +1,6 @@
 -- Expanded programs: one row for each flow, and which flows a row names.
 use Rattle.std.specs.Prelude.{◌≡◌, ℕ, zero, suc, ◌<◌, List, [], ◌∷◌, ◌++◌, length, slice_index, slice_index_or}
-use Rattle.std.specs.List.{AllByRecursion as All}
+use Rattle.std.specs.List.{AllByRecursion}
 use Rattle.syntax.specs.declared.header.Kind.{Kind}
 use Rattle.syntax.specs.declared.header.Kind.TheVariants as kind
 use Rattle.syntax.specs.declared.header.Constant.{Constant}
@@ -88,5 +88,5 @@ sources p x = sources_of p (row p x).clock (row p x).definition
 pub record Ordered (p : Program) (order : List ℕ) : Type 0 where
   pub all : length order ≡ size p
   pub stands : (x : ℕ) → x < size p → (i : ℕ) × (i < length order) × (slice_index order i ≡ x)
-  pub after : (i : ℕ) → i < length order → All (λ d. (j : ℕ) × (j < i) × (slice_index order j ≡ d)) (needs p (slice_index order i))
-  pub named : (x : ℕ) → x < size p → All (λ d. d < size p) (sources p x)
+  pub after : (i : ℕ) → i < length order → AllByRecursion (λ d. (j : ℕ) × (j < i) × (slice_index order j ≡ d)) (needs p (slice_index order i))
+  pub named : (x : ℕ) → x < size p → AllByRecursion (λ d. d < size p) (sources p x)

@@ -1,6 +1,6 @@
 -- Programs whose expressions have kinds and clocks, and that in these a flow is present just where its clock is.
 use Rattle.std.specs.Prelude.{◌≡◌, ℕ, ◌<◌, ◌≤◌, Bool, true, false, cond, ◌&&◌, T, List, ℤ, Some, None, Option, nat_le}
-use Rattle.std.specs.List.{AllByRecursion as All}
+use Rattle.std.specs.List.{AllByRecursion}
 use Rattle.syntax.specs.declared.cell.UnaryOp.{UnaryOp}
 use Rattle.syntax.specs.declared.cell.UnaryOp.TheVariants.{Not, Minus}
 use Rattle.syntax.specs.declared.header.Kind.{Kind}
@@ -93,7 +93,7 @@ pub record PresentFlows {N : Type 0} (r : Reckonings N) (p : Program) (held : He
 pub record Presence {N : Type 0} (r : Reckonings N) (p : Program) : Type 0 where
   pub beats : (held : Held N) (readings : List ℤ) (a : Answers N) (next : Held N) → HeldKinds p held → Beat r p held readings a next → PresentFlows r p held readings a next
   pub histories : (readings : List (List ℤ)) (as' : List (Answers N)) (last : Held N) → History r p readings as' last
-      → All (λ a. (x : ℕ) → x < size p → TimelyAt p a x) as'
+      → AllByRecursion (λ a. (x : ℕ) → x < size p → TimelyAt p a x) as'
 
 abbrev pub OrderedPresentFlows : {N : Type 0} → Reckonings N → Type 0
 OrderedPresentFlows r = (p : Program) (order : List ℕ) → Ordered p order → Typed p → Presence r p

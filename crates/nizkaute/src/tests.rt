@@ -12,8 +12,6 @@ read => line 7: wrong number of words
 read B7 00 => line 7: wrong number of words
 read B => line 7: not bytes in pairs of hexadecimal digits
 list 0G => line 7: not bytes in pairs of hexadecimal digits
-examine => line 7: wrong number of words
-examine B7F => line 7: not bytes in pairs of hexadecimal digits
 write 9 => line 7: wrong number of words
 system pair ranks 3 => line 7: unknown class system
 system ranks 256 => line 7: not a number from 0 to 255
@@ -29,6 +27,22 @@ look 1 => line 7: not yet";
 fn wrong_lines(rt: HostRuntime) -> Result<(), Fail> {
     let heap = rt.alloc();
     for case in WRONG.lines() {
+        let (line, text) = case.split_once(" => ").ok_or("no case")?;
+        let Err(fault) = parse(heap, line) else {
+            return Err(Fail::new("taken for a call"));
+        };
+        assert_eq!(rt; wrong_line(heap, 7, fault)?.as_str(), text);
+    }
+    Ok(())
+}
+
+const WRONG_EXAMINE: &str = "examine => line 7: wrong number of words
+examine B7F => line 7: not bytes in pairs of hexadecimal digits";
+
+#[test]
+fn wrong_lines_to_examine(rt: HostRuntime) -> Result<(), Fail> {
+    let heap = rt.alloc();
+    for case in WRONG_EXAMINE.lines() {
         let (line, text) = case.split_once(" => ").ok_or("no case")?;
         let Err(fault) = parse(heap, line) else {
             return Err(Fail::new("taken for a call"));

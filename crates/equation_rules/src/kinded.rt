@@ -5,7 +5,7 @@ ghost use Rattle.rules.specs.Kinds.{same_kind, of_kind, kind_of, constant_kind, 
 ghost use Rattle.rules.specs.Names.{flow_kind};
 ghost use Rattle.rules.specs.Trees.{tree_of};
 ghost use Rattle.rules.specs.Views.{node_of, block_of};
-ghost use Rattle.equations.specs.Calls.{results_kinded, arguments_kinded};
+ghost use Rattle.equation_rules.specs.Calls.{results_kinded, arguments_kinded};
 
 use layout::node::{Arguments, Equation, Form, Results, Span};
 use layout::parts::{counted, expression};

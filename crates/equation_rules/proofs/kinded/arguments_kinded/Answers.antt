@@ -1,7 +1,7 @@
 use Rattle.std.proofs.Common.{refl}
 use Rattle.rules.specs.Views.{node_of}
-use Rattle.equations.proofs.Spans.{arguments_pass}
-use Rattle.equations.proofs.kinded.arguments_kinded.Goals as goal
+use Rattle.equation_rules.proofs.Spans.{arguments_pass}
+use Rattle.equation_rules.proofs.kinded.arguments_kinded.Goals as goal
 
 pub returns : goal.returns
 returns c =

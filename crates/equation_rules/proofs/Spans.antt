@@ -13,7 +13,7 @@ use Rattle.layout.specs.Blanks.{blank_flow}
 use Rattle.layout.specs.declared.node.Results.{Results}
 use Rattle.rules.specs.Kinds.{same_kind, of_kind, kind_of}
 use Rattle.rules.specs.Names.{flow_kind}
-use Rattle.equations.specs.Calls.{results_kinded, arguments_kinded}
+use Rattle.equation_rules.specs.Calls.{results_kinded, arguments_kinded}
 use Rattle.rules.specs.Every.{every_from}
 use Rattle.rules.specs.Trees.{tree_of}
 use Rattle.rules.proofs.Everies.{every_map}

@@ -2,8 +2,8 @@ use Rattle.std.proofs.Common.{sym, ap, ◌∙◌}
 use Rattle.rules.specs.Shape.{is_exp, form_shaped}
 use Rattle.rules.specs.Trees.{tree_of}
 use Rattle.layout.specs.Layout.{form_in}
-use Rattle.equations.proofs.Spans.{spans_pass}
-use Rattle.equations.proofs.shaped.equation_shaped.Goals as goal
+use Rattle.equation_rules.proofs.Spans.{spans_pass}
+use Rattle.equation_rules.proofs.shaped.equation_shaped.Goals as goal
 
 pub returns-in-Call : goal.returns-in-Call
 returns-in-Call c =

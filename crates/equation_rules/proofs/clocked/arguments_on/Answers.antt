@@ -1,8 +1,8 @@
 use Rattle.rules.specs.Clocks.{on_clock, clock_of}
 use Rattle.rules.specs.Trees.{tree_of}
 use Rattle.rules.specs.Views.{node_of}
-use Rattle.equations.proofs.Spans.{spans_pass}
-use Rattle.equations.proofs.clocked.arguments_on.Goals as goal
+use Rattle.equation_rules.proofs.Spans.{spans_pass}
+use Rattle.equation_rules.proofs.clocked.arguments_on.Goals as goal
 
 pub returns : goal.returns
 returns c =

@@ -4,7 +4,7 @@ ghost use Rattle.rules.specs.Clocks.{on_clock, clock_of, form_clocked};
 ghost use Rattle.rules.specs.Names.{flow_clock};
 ghost use Rattle.rules.specs.Trees.{tree_of};
 ghost use Rattle.rules.specs.Views.{node_of};
-ghost use Rattle.equations.specs.Calls.{results_on, arguments_on};
+ghost use Rattle.equation_rules.specs.Calls.{results_on, arguments_on};
 
 use layout::node::{Arguments, Equation, Form, Results, Span};
 use layout::parts::{counted, expression};

@@ -1,6 +1,6 @@
 use Rattle.rules.specs.Views.{node_of}
-use Rattle.equations.proofs.Spans.{results_pass}
-use Rattle.equations.proofs.kinded.results_kinded.Goals as goal
+use Rattle.equation_rules.proofs.Spans.{results_pass}
+use Rattle.equation_rules.proofs.kinded.results_kinded.Goals as goal
 
 pub returns : goal.returns
 returns c =
