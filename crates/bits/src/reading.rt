@@ -12,8 +12,8 @@ fn bit_after(bytes: &[u8], at: usize, k: u8) -> u8
 
 // The number in the `width` bits from bit `at` on.
 fn number_at(bytes: &[u8], at: usize, width: u8) -> u32
-    requires width_bound { width ≤ 32 }
-    requires width_bound_2 { at + width ≤ 8 * length bytes.now }
+    requires narrow { width ≤ 32 }
+    requires inside { at + width ≤ 8 * length bytes.now }
     ensures { Some result ≡ field_at width (bits_of bytes.now) at }
 {
     let mut value: u32 = 0;

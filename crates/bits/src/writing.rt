@@ -4,8 +4,8 @@ ghost use Rattle.bits.specs.Overwriting.{with_bit, set_bit, set_bits, BitsOverwr
 
 // The byte `x` with its bit of worth `2^s` replaced by `b`.
 fn byte_with(x: u8, s: u8, b: u8) -> u8
-    requires s_bound { s < 8 }
-    requires b_bound { b < 2 }
+    requires in_byte { s < 8 }
+    requires is_bit { b < 2 }
     ensures { result ≡ with_bit x s b }
 {
     let m: u8 = 1 << s;
@@ -14,8 +14,8 @@ fn byte_with(x: u8, s: u8, b: u8) -> u8
 
 // Replaces the bit `k` places after bit `at` by `b`.
 fn put_after(out: &mut [u8], at: usize, k: u8, b: u8)
-    requires k_bound { at + k < 8 * length out.old }
-    requires b_bound { b < 2 }
+    requires inside { at + k < 8 * length out.old }
+    requires is_bit { b < 2 }
     ensures { out.new ≡ set_bit out.old (at + k) b }
 {
     let i = at % 8 + usize::from(k);

@@ -10,6 +10,7 @@ use script::outcome::wrong_line;
 use script::parse::parse;
 use script::settings::{START, Settings};
 use std::io::Read;
+use std::process::ExitCode;
 use std::{env, fs, io};
 use syntax::cell::Cell;
 
@@ -89,14 +90,22 @@ fn run(rt: &HostRuntime, script: &[u8]) -> io::Result<()> {
     }
 }
 
-// Ends with status 1 after a script in which some line is no call.
-fn main(rt: HostRuntime) -> io::Result<()> {
-    match script_bytes(&rt) {
-        Ok(script) => run(&rt, script.as_slice()),
+// Plays the script, and says on standard error why it cannot be read.
+fn run_script(rt: &HostRuntime) -> io::Result<()> {
+    match script_bytes(rt) {
+        Ok(script) => run(rt, script.as_slice()),
         Err(e) => {
             eprintln!(rt; "nizkaute: {e}")?;
             Err(e)
         }
+    }
+}
+
+// Ends with status 1 after a script in which some line is no call.
+fn main(rt: HostRuntime) -> ExitCode {
+    match run_script(&rt) {
+        Ok(()) => ExitCode::SUCCESS,
+        Err(_) => ExitCode::FAILURE,
     }
 }
 

@@ -9,7 +9,7 @@ use Rattle.std.specs.Str.{all_ascii_digits}
 use Rattle.script.specs.declared.fault.LineFault.TheVariants.{NotInRange}
 use Rattle.script.specs.Words.{number_in}
 
--- `value` and `allDigits` as `parse` has them
+-- `digits_value` and `all_ascii_digits` as `parse` has them
 own : IsNumeralModel (λ ds. all_ascii_digits ds ≡ true) (digits_value 10)
 own = numerals_by_value (λ ds. all_ascii_digits ds ≡ true) tells_all_ascii_digits
 

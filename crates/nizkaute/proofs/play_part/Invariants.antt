@@ -1,4 +1,4 @@
-use Rattle.std.proofs.Common.{◌<◌, ◌≤◌}
+use Rattle.std.proofs.Common.{◌≤◌}
 use Rattle.nizkaute.proofs.play_part.Given as goal
 
 abbrev pub invariant-loop-i : goal.invariant-loop-i

@@ -12,8 +12,8 @@ use syntax::fault::ReadFault;
 
 // One cell more.
 fn push(store: &mut CellStore<'_>, cell: Cell)
-    requires used_in_bounds { store.old.used < length store.old.cells.now }
-    requires used_bound { store.old.used < 4096 }
+    requires inside { store.old.used < length store.old.cells.now }
+    requires few { store.old.used < 4096 }
     ensures cells { store.new.cells.now ≡ slice_set store.old.cells.now store.old.used cell }
     ensures used { store.new.used ≡ store.old.used + 1 }
 {

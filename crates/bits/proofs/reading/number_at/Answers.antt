@@ -18,4 +18,4 @@ loop-k-preserved c =
 pub returns : goal.returns
 returns c =
     let e : c.loop-k.k ≡ c.args.width = omega arith in
-    rw (field-whole c.args.width c.args.bytes.now c.args.at c.requires.width_bound_2) (cc)
+    rw (field-whole c.args.width c.args.bytes.now c.args.at c.requires.inside) (cc)

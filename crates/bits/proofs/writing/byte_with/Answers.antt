@@ -4,7 +4,7 @@ use Rattle.bits.proofs.Bytes.{with_bit_fits}
 use Rattle.bits.proofs.writing.byte_with.Goals as goal
 
 pub overflow_mul-result-2 : goal.overflow_mul-result-2
-overflow_mul-result-2 c = rw (one_shl c.args.s 8 c.requires.s_bound) (omega (arith, with_bit_fits c.args.x c.args.s c.args.b (omega arith) c.requires.s_bound c.requires.b_bound))
+overflow_mul-result-2 c = rw (one_shl c.args.s 8 c.requires.in_byte) (omega (arith, with_bit_fits c.args.x c.args.s c.args.b (omega arith) c.requires.in_byte c.requires.is_bit))
 
 pub overflow_add-result-2 : goal.overflow_add-result-2
-overflow_add-result-2 c = rw (one_shl c.args.s 8 c.requires.s_bound) (omega (arith, with_bit_fits c.args.x c.args.s c.args.b (omega arith) c.requires.s_bound c.requires.b_bound))
+overflow_add-result-2 c = rw (one_shl c.args.s 8 c.requires.in_byte) (omega (arith, with_bit_fits c.args.x c.args.s c.args.b (omega arith) c.requires.in_byte c.requires.is_bit))

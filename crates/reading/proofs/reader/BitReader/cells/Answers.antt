@@ -24,7 +24,7 @@ push-requires c =
     let f = c.loop-k.invariant.room in
     let a = c.in_ok-cell.ensures.four in
     let s = c.cell.new.self in
-    record { used_in_bounds = omega (arith, f.taken, f.wide, a, s.within, s.short); used_bound = omega (arith, f.taken, a, s.within, s.short) }
+    record { inside = omega (arith, f.taken, f.wide, a, s.within, s.short); few = omega (arith, f.taken, a, s.within, s.short) }
 
 pub loop-k-preserved : goal.loop-k-preserved
 loop-k-preserved c =
