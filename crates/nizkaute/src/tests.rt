@@ -4,6 +4,8 @@ use script::command::{Command, Numbers, System};
 use script::outcome::wrong_line;
 use script::parse::parse;
 use script::settings::START;
+use std::alloc::Global;
+use std::process::Abort;
 use std::test::Fail;
 
 const WRONG: &str = "foo => line 7: unknown call
@@ -23,10 +25,12 @@ tables 1 2 3 4 5 6 99999999999 => line 7: not a number from 0 to 1000000
 open - => line 7: not yet
 look 1 => line 7: not yet";
 
-#[test]
-fn wrong_lines(rt: HostRuntime) -> Result<(), Fail> {
-    let heap = rt.alloc();
-    for case in WRONG.lines() {
+const WRONG_EXAMINE: &str = "examine => line 7: wrong number of words
+examine B7F => line 7: not bytes in pairs of hexadecimal digits";
+
+// Each case is a line, and what is printed of it.
+fn are_wrong(rt: &impl Abort, heap: Global, cases: &str) -> Result<(), Fail> {
+    for case in cases.lines() {
         let (line, text) = case.split_once(" => ").ok_or("no case")?;
         let Err(fault) = parse(heap, line) else {
             return Err(Fail::new("taken for a call"));
@@ -36,20 +40,14 @@ fn wrong_lines(rt: HostRuntime) -> Result<(), Fail> {
     Ok(())
 }
 
-const WRONG_EXAMINE: &str = "examine => line 7: wrong number of words
-examine B7F => line 7: not bytes in pairs of hexadecimal digits";
+#[test]
+fn wrong_lines(rt: HostRuntime) -> Result<(), Fail> {
+    are_wrong(&rt, rt.alloc(), WRONG)
+}
 
 #[test]
 fn wrong_lines_to_examine(rt: HostRuntime) -> Result<(), Fail> {
-    let heap = rt.alloc();
-    for case in WRONG_EXAMINE.lines() {
-        let (line, text) = case.split_once(" => ").ok_or("no case")?;
-        let Err(fault) = parse(heap, line) else {
-            return Err(Fail::new("taken for a call"));
-        };
-        assert_eq!(rt; wrong_line(heap, 7, fault)?.as_str(), text);
-    }
-    Ok(())
+    are_wrong(&rt, rt.alloc(), WRONG_EXAMINE)
 }
 
 #[test]
