@@ -1,8 +1,23 @@
 -- A byte with one of its bits replaced: which bits it has.
-use Rattle.std.proofs.Common.{◌≡◌, ℕ, ◌+◌, ◌-◌, ◌*◌, ◌/◌, ◌%◌, ◌^◌, ◌<◌, ◌≤◌, sym, ap, ◌∙◌, ⊎_elim, arith}
+use Rattle.std.proofs.Common.{◌≡◌, ◌==◌, ℕ, zero, suc, Bool, true, false, ◌+◌, ◌-◌, ◌*◌, ◌/◌, ◌%◌, ◌^◌, ◌<◌, ◌≤◌, sym, refl, ap, ◌∙◌, ⊎_elim, arith}
 use Rattle.std.proofs.lemmas.Nat.{mod_below, pow_pos, div-mul-add, mod-mul-add, shr-shr, field_of, mod-pow-add, shr_below, mul-add-lt, pow-add}
 use Rattle.std.proofs.lemmas.Bool.{cases_lt}
+use Rattle.std.specs.Int.{from_bool}
 use Rattle.bits.specs.Overwriting.{with_bit}
+
+-- a truth is a bit
+pub truth-below : (b : Bool) → from_bool b < 2
+truth-below false = omega arith
+truth-below true = omega arith
+
+bit-is : (n : ℕ) → n < 2 → from_bool (n == 1) ≡ n
+bit-is zero h = refl
+bit-is (suc zero) h = refl
+bit-is (suc (suc n)) h = absurd (omega arith)
+
+-- and a bit is a truth: whether it is 1
+pub bit-truth : (n : ℕ) → from_bool (n % 2 == 1) ≡ n % 2
+bit-truth n = bit-is (n % 2) (mod_below n 2 (omega arith))
 
 -- the byte from the bit on
 pub with_bit_shr : (x s b : ℕ) → with_bit x s b / 2 ^ s ≡ x / 2 ^ s / 2 * 2 + b

@@ -1,5 +1,5 @@
 -- What the loops over the bits of a field keep.
-use Rattle.std.proofs.Common.{◌≡◌, ℕ, suc, ◌+◌, ◌-◌, ◌*◌, ◌/◌, ◌%◌, ◌^◌, ◌<◌, ◌≤◌, Bool, true, false, cond, leb, List, length, get_or, take, drop, Some, None, sym, refl, ◌∙◌, ⊎_elim, arith, length-drop, length-take, pow_mono}
+use Rattle.std.proofs.Common.{◌≡◌, ℕ, suc, ◌+◌, ◌-◌, ◌*◌, ◌/◌, ◌%◌, ◌^◌, ◌<◌, ◌≤◌, Bool, true, false, cond, ◌&&◌, leb, List, length, get_or, take, drop, Some, None, sym, refl, ◌∙◌, ⊎_elim, arith, length-drop, length-take, pow_mono}
 use Rattle.std.proofs.lemmas.List.{get_or-drop, get_or-take, get_or_past}
 use Rattle.std.proofs.lemmas.List.Sums.{fold_more}
 use Rattle.std.proofs.lemmas.Bool.{le-leb, lt-leb, cases_lt}
@@ -7,10 +7,6 @@ use Rattle.bits.specs.Bits.{bits_of, number_of, digits, field_at}
 use Rattle.bits.specs.Overwriting.{set_bit, set_bits}
 use Rattle.bits.proofs.BitLists.{length_bits, bits_of-bit, number_of-below, digits_none, digits_front}
 use Rattle.bits.proofs.SetBits.{set_bits_none, set_bits_more}
-
-cond_same : {A : Type 0} (b : Bool) (x : A) → cond b x x ≡ x
-cond_same true x = refl
-cond_same false x = refl
 
 -- a field that reaches past the bits is none
 pub field_at_ends : (w : ℕ) (bits : List ℕ) (at : ℕ) → length bits < at + w → field_at w bits at ≡ None
@@ -22,13 +18,14 @@ pub field_at_reads : (w : ℕ) (bits : List ℕ) (at : ℕ) → at + w ≤ lengt
 unfolding field_at
 field_at_reads w bits at h = rw (le-leb (at + w) (length bits) h)
 
--- no field is read above 32 bits
-pub field_wide : (w : ℕ) (bits : List ℕ) (at : ℕ) → 32 < w → cond (leb w 32) (field_at w bits at) None ≡ None
-field_wide w bits at h = rw (lt-leb w 32 h)
+cond_both : {A : Type 0} (a b : Bool) (x y : A) → (a && b) ≡ false → cond a (cond b x y) y ≡ y
+cond_both false b x y h = refl
+cond_both true b x y h = rw h
 
--- nor one that reaches past the bits
-pub field_short : (w : ℕ) (bytes : List ℕ) (at : ℕ) → 8 * length bytes < at + w → cond (leb w 32) (field_at w (bits_of bytes) at) None ≡ None
-field_short w bytes at h = rw (field_at_ends w (bits_of bytes) at (omega (arith, length_bits bytes))) (cond_same (leb w 32) None)
+-- no field is read above 32 bits, nor one that reaches past the bits
+pub field_none : (w : ℕ) (bytes : List ℕ) (at : ℕ) → (leb w 32 && leb (at + w) (8 * length bytes)) ≡ false → cond (leb w 32) (field_at w (bits_of bytes) at) None ≡ None
+unfolding field_at
+field_none w bytes at h = rw (length_bits bytes) (cond_both (leb w 32) (leb (at + w) (8 * length bytes)) (Some (number_of (take w (drop at (bits_of bytes))))) None h)
 
 -- one that does not is read
 pub field-whole : (w : ℕ) (bytes : List ℕ) (at : ℕ) → at + w ≤ 8 * length bytes → field_at w (bits_of bytes) at ≡ Some (number_of (take w (drop at (bits_of bytes))))

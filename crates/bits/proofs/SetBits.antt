@@ -1,10 +1,9 @@
 -- Bytes with some of their bits replaced.
 use Rattle.std.proofs.Common.{◌≡◌, ℕ, suc, ◌+◌, ◌-◌, ◌*◌, ◌/◌, ◌%◌, ◌^◌, ◌<◌, ◌≤◌, List, [], ◌∷◌, ◌++◌, length, get_or, set, sym, refl, ap, ◌∙◌, ⊎_elim, arith, length-set, get_or-set_other, get_or-set_same}
-use Rattle.std.proofs.lemmas.List.{set-append_left, get_or_append_left}
+use Rattle.std.proofs.lemmas.List.{ext_get_or, set-append_left, get_or_append_left}
 use Rattle.std.proofs.lemmas.Bool.{cases_eq}
 use Rattle.bits.specs.Bits.{bits_of, Bytes}
 use Rattle.bits.specs.Overwriting.{with_bit, set_bit, set_bits, written, BitsOverwritten}
-use Rattle.bits.proofs.Lists.{list_ext}
 use Rattle.bits.proofs.BitLists.{length_bits, get_d_bits}
 use Rattle.bits.proofs.Bytes.{with_bit_here, with_bit_other, with_bit_fits}
 
@@ -61,7 +60,7 @@ bit-set_other bytes i b h l j n =
 pub bits_set_bit : (bytes : List ℕ) (i b : ℕ) → i < 8 * length bytes → b < 2 → bits_of (set_bit bytes i b) ≡ set (bits_of bytes) i b
 bits_set_bit bytes i b h l =
     let n : length (bits_of (set_bit bytes i b)) ≡ length (set (bits_of bytes) i b) = simp length-set (omega (arith, length_bits (set_bit bytes i b), length_bits bytes, length-set_bit bytes i b)) in
-    list_ext 0 (bits_of (set_bit bytes i b)) (set (bits_of bytes) i b) n (λ j _.
+    ext_get_or 0 (bits_of (set_bit bytes i b)) (set (bits_of bytes) i b) n (λ j _.
     ⊎_elim
     (λ (e : j ≡ i). rw e (bit-set_here bytes i b h l ∙ sym (get_or-set_same (bits_of bytes) i b 0 (omega (arith, length_bits bytes)))))
     (λ (e : j ≡ i → ⊥). bit-set_other bytes i b h l j e ∙ sym (get_or-set_other (bits_of bytes) i j b 0 e))

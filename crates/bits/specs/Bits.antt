@@ -1,5 +1,6 @@
 -- Bytes as bits. A byte and a bit are natural numbers; a bit is 0 or 1.
-use Rattle.std.specs.Prelude.{ℕ, zero, suc, ◌+◌, ◌*◌, ◌/◌, ◌%◌, ◌<◌, cond, List, [], ◌∷◌, ◌++◌, length, take, drop, Some, None, fold, Option, nat_le, slice_index}
+use Rattle.std.specs.Prelude.{ℕ, zero, suc, ◌+◌, ◌*◌, ◌/◌, ◌%◌, ◌<◌, cond, List, [], ◌∷◌, ◌++◌, map, length, take, drop, Some, None, fold, Option, nat_le, slice_index}
+use Rattle.std.specs.List.{range_with_len}
 
 -- the eight bits of a byte, most significant first
 abbrev pub byte_bits : ℕ → List ℕ
@@ -23,18 +24,13 @@ digits (suc w) v = digits w (v / 2) ++ (v % 2 ∷ [])
 unfoldable pub field_at : ℕ → List ℕ → ℕ → Option ℕ
 field_at w bits at = cond (nat_le (at + w) (length bits)) (Some (number_of (take w (drop at bits)))) None
 
--- f from, f (from + 1) and so on, n of them
-unfoldable pub each : {A : Type 0} → (ℕ → A) → ℕ → ℕ → List A
-each f from zero = []
-each f from (suc n) = f from ∷ each f (from + 1) n
-
 -- byte j of those that hold the bits; zeros stand past the last bit
 abbrev pub byte_at : List ℕ → ℕ → ℕ
-byte_at bits j = number_of (each (λ i. slice_index bits i) (8 * j) 8)
+byte_at bits j = number_of (map (λ i. slice_index bits i) (range_with_len (8 * j) 8))
 
 -- the bytes that hold the bits, the last one filled with zeros
 unfoldable pub bytes_of : List ℕ → List ℕ
-bytes_of bits = each (byte_at bits) 0 ((length bits + 7) / 8)
+bytes_of bits = map (byte_at bits) (range_with_len 0 ((length bits + 7) / 8))
 
 -- every element is a byte
 abbrev pub Bytes : List ℕ → Type 0

@@ -2,5 +2,6 @@
 // bit 0 is the most significant of the first byte.
 #![tactic(auto)]
 
+mod place;
 pub mod reading;
 pub mod writing;

@@ -1,13 +1,16 @@
 ghost use Rattle.std.specs.Prelude.{◌≡◌, ◌+◌, ◌-◌, ◌*◌, ◌/◌, ◌%◌, ◌^◌, ◌<◌, ◌≤◌, length, if◌then◌else◌, Some, None, nat_le, slice_index};
+ghost use Rattle.std.specs.Int.{from_bool};
 ghost use Rattle.bits.specs.Bits.{bits_of, field_at};
 
+use crate::place::{Place, hold_field};
+
 // The bit `k` places after bit `at`.
-fn bit_after(bytes: &[u8], at: usize, k: u8) -> u8
+fn bit_after(bytes: &[u8], at: usize, k: u8) -> bool
     requires { at + k < 8 * length bytes.now }
-    ensures { result ≡ slice_index bytes.now ((at + k) / 8) / 2 ^ (7 - (at + k) % 8) % 2 }
+    ensures { from_bool result ≡ slice_index bytes.now ((at + k) / 8) / 2 ^ (7 - (at + k) % 8) % 2 }
 {
-    let i = at % 8 + usize::from(k);
-    (bytes[at / 8 + i / 8] >> (7 - i % 8)) % 2
+    let place = Place::after(at, k);
+    (bytes[place.byte] >> place.shift) % 2 == 1
 }
 
 // The number in the `width` bits from bit `at` on.
@@ -27,9 +30,9 @@ fn number_at(bytes: &[u8], at: usize, width: u8) -> u32
 pub fn field(bytes: &[u8], at: usize, width: u8) -> Option<u32>
     ensures { result ≡ (if nat_le width 32 then field_at width (bits_of bytes.now) at else None) }
 {
-    let end = at as u128 + u128::from(width);
-    if width > 32 || end > bytes.len() as u128 * 8 {
-        return None;
+    if hold_field(bytes, at, width) {
+        Some(number_at(bytes, at, width))
+    } else {
+        None
     }
-    Some(number_at(bytes, at, width))
 }

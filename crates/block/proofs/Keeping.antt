@@ -34,8 +34,8 @@ module _ (n : ℕ) (bytes : List ℕ) where
   stands_by : (t : Table) (r : Result BlockSyntax ReadFault) → decode_into n bytes ≡ r → Holds t (read_block r) → block_in t ≡ read_block r
   stands_by t (Ok b) e h =
       let g = decode_encodable bytes b (into_decode n bytes b e) in
-      holds_block t b g.0.1 g.1 h
-  stands_by t (Err f) e h = holds_block t [] (omega arith) tt h
+      holds_block t b g.1 h
+  stands_by t (Err f) e h = holds_block t [] tt h
 
   pub read_stands : (t : Table) → Holds t (read_block (decode_into n bytes)) → block_in t ≡ read_block (decode_into n bytes)
   read_stands t h = stands_by t (decode_into n bytes) refl h

@@ -6,10 +6,7 @@ use syntax::fault::{Fault, ReadFault, Stage};
 const INVERTER: [u8; 9] = [0xb7, 0x00, 0x00, 0x00, 0x08, 0x02, 0x10, 0x01, 0x80];
 
 fn told(answer: Result<(), ReadFault>) -> Option<Fault> {
-    match answer {
-        Ok(()) => None,
-        Err(fault) => Some(fault.fault()),
-    }
+    answer.err().map(Fault::from)
 }
 
 fn reading(number: u8, first: usize) -> Option<Fault> {

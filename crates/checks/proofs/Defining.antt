@@ -1,6 +1,7 @@
 -- How often equations define a flow.
-use Rattle.std.proofs.Common.{◌≡◌, ℕ, ◌+◌, Bool, true, false, cond, eqb, List, [], ◌∷◌, ◌++◌, map, sym, refl, ap, ◌∙◌, add_assoc, zero-add, arith}
+use Rattle.std.proofs.Common.{◌≡◌, ℕ, ◌+◌, Bool, true, false, cond, eqb, List, [], ◌∷◌, map, sym, refl, ap, ◌∙◌, arith}
 use Rattle.std.proofs.lemmas.Bool.Decides.{nat_tests}
+use Rattle.std.proofs.lemmas.List.Sums.{sum_by-append, sum_by-cons}
 use Rattle.syntax.specs.declared.cell.Cell.{Cell}
 use Rattle.syntax.specs.Encoder.{joined}
 use Rattle.syntax.specs.Syntax.{EquationSyntax}
@@ -11,26 +12,18 @@ use Rattle.rules.specs.Names.{defined_by}
 use Rattle.rules.specs.Views.{row_defines}
 use Rattle.rules.proofs.Rows.{row-defined}
 use Rattle.checks.specs.Rows.{times_defined}
-use Rattle.checks.specs.Sums.{total, capped}
-
-pub times-total : (x : ℕ) (ys : List ℕ) → total (λ y. cond (eqb x y) 1 0) ys ≡ times x ys
-unfolding total times
-times-total x [] = refl
-times-total x (y ∷ ys) = ap (λ n. cond (eqb x y) 1 0 + n) (times-total x ys)
-
-times-append : (x : ℕ) (ys zs : List ℕ) → times x (ys ++ zs) ≡ times x ys + times x zs
-unfolding times
-times-append x [] zs = sym (zero-add (times x zs))
-times-append x (y ∷ ys) zs = ap (λ n. cond (eqb x y) 1 0 + n) (times-append x ys zs) ∙ sym (add_assoc (cond (eqb x y) 1 0) (times x ys) (times x zs))
+use Rattle.checks.specs.Sums.{capped}
 
 -- rows define what the equations that they stand for do
 pub rows_define : (cells : List Cell) (x : ℕ) (es : List Equation) → times_defined x es ≡ times x (joined (λ (e : EquationSyntax). defined_by e.form) (map (equation_in cells) es))
-unfolding total joined times
+unfolding joined
 rows_define cells x [] = refl
 rows_define cells x (e ∷ es) =
-    ap (λ n. times x (row_defines e.form) + n) (rows_define cells x es)
-    ∙ ap (λ ys. times x ys + times x (joined (λ (d : EquationSyntax). defined_by d.form) (map (equation_in cells) es))) (row-defined cells e.form)
-    ∙ sym (times-append x (defined_by (form_in cells e.form)) (joined (λ (d : EquationSyntax). defined_by d.form) (map (equation_in cells) es)))
+    let rest = joined (λ (d : EquationSyntax). defined_by d.form) (map (equation_in cells) es) in
+    sum_by-cons (λ (d : Equation). times x (row_defines d.form)) e es
+    ∙ ap (λ n. times x (row_defines e.form) + n) (rows_define cells x es)
+    ∙ ap (λ ys. times x ys + times x rest) (row-defined cells e.form)
+    ∙ sym (sum_by-append (λ y. cond (eqb x y) 1 0) (defined_by (form_in cells e.form)) rest)
 
 -- a small number is told from others by the capped one
 pub capped_tells : (n r w : ℕ) (t : Bool) → r ≡ capped n → w ≡ cond t 0 1 → eqb r w ≡ eqb n (cond t 0 1)

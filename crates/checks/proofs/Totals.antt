@@ -1,7 +1,8 @@
--- Sums of what elements count for.
-use Rattle.std.proofs.Common.{◌≡◌, ℕ, ◌+◌, ◌^◌, ◌<◌, ◌≤◌, List, [], ◌∷◌, map, length, get_or, drop, sym, refl, ap, ◌∙◌, zero-add, arith}
-use Rattle.std.proofs.lemmas.List.{at_drop_more, at_drop_all}
-use Rattle.checks.specs.Sums.{total, capped}
+-- Sums that stop at the largest number.
+use Rattle.std.proofs.Common.{◌≡◌, ℕ, ◌+◌, ◌^◌, ◌<◌, List, [], ◌∷◌, map, ap, ◌∙◌, arith}
+use Rattle.std.specs.List.{fold, sum_by}
+use Rattle.std.proofs.lemmas.List.Sums.{sum_by-cons}
+use Rattle.checks.specs.Sums.{capped}
 
 -- a sum of capped numbers, capped, is the sum capped
 pub capped-sum : (a b : ℕ) → capped (capped a + capped b) ≡ capped (a + b)
@@ -16,31 +17,16 @@ capped_right a b = omega arith
 pub capped_same : (a : ℕ) → a < 2 ^ 64 → a ≡ capped a
 capped_same a h = omega arith
 
-module _ {A : Type 0} (f : A → ℕ) (xs : List A) where
-  -- with what is left, the sum so far makes the whole
-  pub record Adding (i sum : ℕ) : Type 0 where
-    pub within : sum < 2 ^ 64
-    pub left : capped (sum + total f (drop i xs)) ≡ capped (total f xs)
+module _ {A : Type 0} (f : A → ℕ) where
+  fold_from : (a : ℕ) (xs : List A) → fold (λ s n. capped (s + n)) (capped a) (map f xs) ≡ capped (a + sum_by f xs)
+  fold_from a [] = omega arith
+  fold_from a (x ∷ xs) =
+      let first : a + f x + sum_by f xs ≡ a + sum_by f (x ∷ xs) = omega (arith, sum_by-cons f x xs) in
+      ap (λ s. fold (λ t n. capped (t + n)) s (map f xs)) (capped_left a (f x)) ∙ fold_from (a + f x) xs ∙ ap capped first
 
-  pub adding_none : Adding 0 0
-  adding_none = record { within = omega arith; left = ap capped (zero-add (total f xs)) }
-
-  pub adding_more : (i sum : ℕ) (x : A) (w s : ℕ) → i < length xs → x ≡ get_or xs i x → w ≡ capped (f x) → s ≡ capped (sum + w) → Adding i sum → Adding (i + 1) s
-  unfolding total
-  adding_more i sum x w s l read e g h =
-      let rest = total f (drop (i + 1) xs) in
-      let t : total f (drop i xs) ≡ f x + rest = at_drop_more (total f) xs i x l ∙ ap (λ y. f y + rest) (sym read) in
-      let k : capped (s + rest) ≡ capped (sum + total f (drop i xs)) = omega arith in
-      record { within = omega arith; left = k ∙ h.left }
-
-  pub adding_all : (i sum : ℕ) → length xs ≤ i → Adding i sum → sum ≡ capped (total f xs)
-  unfolding total
-  adding_all i sum l h =
-      let t : total f (drop i xs) ≡ 0 = at_drop_all (total f) xs i l in
-      let k : sum ≡ capped (sum + total f (drop i xs)) = omega (arith, h.within) in
-      k ∙ h.left
-
-pub total-map : {A B : Type 0} (g : A → B) (f : B → ℕ) (xs : List A) → total f (map g xs) ≡ total (λ x. f (g x)) xs
-unfolding total
-total-map g f [] = refl
-total-map g f (x ∷ xs) = ap (λ n. f (g x) + n) (total-map g f xs)
+  -- a sum that is capped at each step is the sum capped
+  pub capped_fold : (xs : List A) → fold (λ s n. capped (s + n)) 0 (map f xs) ≡ capped (sum_by f xs)
+  capped_fold xs =
+      let none : 0 ≡ capped 0 = omega arith in
+      let same : 0 + sum_by f xs ≡ sum_by f xs = omega arith in
+      ap (λ s. fold (λ t n. capped (t + n)) s (map f xs)) none ∙ fold_from 0 xs ∙ ap capped same

@@ -5,6 +5,5 @@
 pub mod clocks;
 pub mod definitions;
 pub mod fit;
-mod place;
+pub mod place;
 pub mod size;
-mod sum;

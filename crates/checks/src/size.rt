@@ -1,38 +1,46 @@
-ghost use Rattle.std.specs.Prelude.{◌≡◌, ◌+◌, ◌≤◌, ◌&&◌, length, nat_le, slice_index_or};
-ghost use Rattle.checks.specs.Sizes.{Caps, call_size, capped_size, cells_size, size_in, sizes_in};
+ghost use Rattle.std.specs.Prelude.{◌≡◌, ◌+◌, ◌≤◌, ◌&&◌, map, length, nat_le, slice_index_or};
+ghost use Rattle.checks.specs.Sizes.{call_size, capped_size, cells_size};
 ghost use Rattle.checks.specs.Sums.{capped};
 ghost use Rattle.layout.specs.Layout.{arguments_in, expression_in, form_in};
 ghost use Rattle.rules.specs.Size.{cells_in, equations_size, form_size, main_small, no_size, plus, sizes, small};
 ghost use Rattle.rules.specs.Views.{block_of, node_of};
 
 use crate::place::is_main;
-use crate::sum::{Weight, sum_of};
+use arrayvec::ArrayVec;
 use layout::node::{Arguments, Form, Span};
-use layout::parts::{counted, expression};
-use rules::view::looking::node_view;
-use rules::view::{BlockView, NodeView};
+use layout::parts::expression;
+use rules::view::looking::{node_view, view_of};
+use rules::view::{BlockView, HeldBlock, NodeView};
+use std::marker::Model;
 use syntax::cell::Cell;
 
 // What the calls in a node add to its flows, and its cells with those of its calls. Where a number would be too
 // large, it is the largest there is.
-#[derive(Clone, Copy)]
+#[derive(Clone, Copy, Default)]
 struct Size {
     flows: usize,
     cells: usize,
 }
 
-// A block has at most so many nodes, and its expansion may have at most so many flows and cells.
-const MOST_NODES: usize = 8;
+impl Model for Size {
+    ghost use Rattle.rules.specs.Size.{Size as exact_size};
 
+    ghost Value = { exact_size };
+
+    ghost view = { λ s. record { flows = s.flows; cells = s.cells } };
+
+    ghost inverse = { λ s. record { flows = s.flows; cells = s.cells } };
+}
+
+// An expansion may have at most so many flows and cells.
 const MOST_FLOWS: usize = 512;
 
 const MOST_CELLS: usize = 4096;
 
-const NO_SIZE: Size = Size { flows: 0, cells: 0 };
-
 impl Size {
+    // A method and no `+`, which would not show that the sum stops at the largest number.
     fn plus(self, other: Size) -> Size
-        ensures { size_in result ≡ capped_size (plus (size_in self) (size_in other)) }
+        ensures { result ≡ capped_size (plus self other) }
     {
         Size {
             flows: self.flows.saturating_add(other.flows),
@@ -50,42 +58,22 @@ impl Size {
 
 // A size by its node's number; none where there is no such node.
 fn size_at(sizes: &[Size], number: usize) -> Size
-    ensures { size_in result ≡ slice_index_or (sizes_in sizes.now) number no_size }
+    ensures { result ≡ slice_index_or sizes.now number no_size }
 {
-    if number < sizes.len() {
-        sizes[number]
-    } else {
-        NO_SIZE
-    }
-}
-
-// An expression counts as often as it has cells.
-#[derive(Clone, Copy)]
-struct CellsOf<'a> {
-    cells: &'a [Cell],
-}
-
-impl Weight for CellsOf<'_> {
-    type Item = Span;
-
-    ghost worth = { λ s e. length (expression_in s.cells.now e) };
-
-    fn weigh(&self, item: &Span) -> usize {
-        expression(self.cells, *item).len()
-    }
+    sizes.get(number).copied().unwrap_or_default()
 }
 
 fn argument_cells(cells: &[Cell], arguments: &Arguments) -> usize
     ensures { result ≡ capped (cells_in (arguments_in cells.now arguments.now)) }
 {
-    sum_of(
-        &CellsOf { cells },
-        counted(&arguments.spans, arguments.count),
-    )
+    arguments
+        .iter()
+        .map(|span| expression(cells, *span).len())
+        .fold(0, usize::saturating_add)
 }
 
 fn expression_size(cells: &[Cell], span: Span) -> Size
-    ensures { size_in result ≡ capped_size (cells_size (expression_in cells.now span)) }
+    ensures { result ≡ capped_size (cells_size (expression_in cells.now span)) }
 {
     Size {
         flows: 0,
@@ -100,83 +88,80 @@ fn flows_added(called: &NodeView<'_>) -> usize
     usize::from(called.inputs) + usize::from(called.locals)
 }
 
-// What a call adds: its callee's inputs and locals, the arguments, and what the callee's own calls add.
-fn call_size(
-    block: &BlockView<'_>,
-    earlier: &[Size],
-    cells: &[Cell],
-    callee: u8,
-    arguments: &Arguments,
-) -> Size
-    ensures { size_in result ≡ capped_size (call_size (block_of block.now) (sizes_in earlier.now) callee (arguments_in cells.now arguments.now)) }
-{
-    let number = usize::from(callee);
-    let called = node_view(block, number);
-    let own = Size {
-        flows: flows_added(&called),
-        cells: argument_cells(cells, arguments),
-    };
-    own.plus(size_at(earlier, number))
+// A block and the sizes of its first nodes, from which the next one's is worked out.
+#[derive(Clone, Copy)]
+struct Sizing<'a> {
+    block: BlockView<'a>,
+    earlier: &'a [Size],
 }
 
-// What an equation adds.
-fn form_size(block: &BlockView<'_>, earlier: &[Size], cells: &[Cell], form: &Form) -> Size
-    ensures { size_in result ≡ capped_size (form_size (block_of block.now) (sizes_in earlier.now) (form_in cells.now form.now)) }
-{
-    match form {
-        Form::Plain { cells: span, .. } => expression_size(cells, *span),
-        Form::Delay { cells: span, .. } => expression_size(cells, *span),
-        Form::Call {
-            node: callee,
-            arguments,
-            ..
-        } => call_size(block, earlier, cells, *callee, arguments),
+impl Sizing<'_> {
+    // What a call adds: its callee's inputs and locals, the arguments, and what the callee's own calls add.
+    fn call_size(&self, cells: &[Cell], callee: u8, arguments: &Arguments) -> Size
+        ensures { result ≡ capped_size (call_size (block_of self.now.block) self.now.earlier.now callee (arguments_in cells.now arguments.now)) }
+    {
+        let number = usize::from(callee);
+        let own = Size {
+            flows: flows_added(&node_view(&self.block, number)),
+            cells: argument_cells(cells, arguments),
+        };
+        own.plus(size_at(self.earlier, number))
     }
-}
 
-// What a node's equations add, where the sizes of the earlier nodes are known.
-fn node_size(block: &BlockView<'_>, earlier: &[Size], node: &NodeView<'_>) -> Size
-    ensures { size_in result ≡ capped_size (equations_size (block_of block.now) (sizes_in earlier.now) (node_of node.now).equations) }
-{
-    let equations = node.equations;
-    let mut size = NO_SIZE;
-    for i in 0..equations.len() {
-        size = size.plus(form_size(block, earlier, node.cells, &equations[i].form));
+    // What an equation adds.
+    fn form_size(&self, cells: &[Cell], form: &Form) -> Size
+        ensures { result ≡ capped_size (form_size (block_of self.now.block) self.now.earlier.now (form_in cells.now form.now)) }
+    {
+        match form {
+            Form::Plain { cells: span, .. } | Form::Delay { cells: span, .. } => {
+                expression_size(cells, *span)
+            }
+            Form::Call {
+                node,
+                arguments,
+                ..
+            } => self.call_size(cells, *node, arguments),
+        }
     }
-    size
+
+    // What a node's equations add.
+    fn node_size(&self, node: &NodeView<'_>) -> Size
+        ensures { result ≡ capped_size (equations_size (block_of self.now.block) self.now.earlier.now (node_of node.now).equations) }
+    {
+        let mut size = Size::default();
+        for equation in node.equations {
+            size = size.plus(self.form_size(node.cells, &equation.form));
+        }
+        size
+    }
 }
 
 // The sizes of the nodes, each from those before it.
-fn sizes_of(block: &BlockView<'_>) -> [Size; 8]
-    requires { length block.now.nodes.now ≤ 8 }
-    ensures { Caps (sizes_in result) (sizes (block_of block.now)) }
+fn sizes_of(block: &HeldBlock<'_>) -> ArrayVec<Size, 8>
+    ensures { result.items ≡ map capped_size (sizes (block_of block.now.view)) }
 {
-    let mut sizes = [NO_SIZE; MOST_NODES];
-    for k in 0..block.nodes.len() {
-        sizes[k] = node_size(block, &sizes, &node_view(block, k));
+    let block = block.view;
+    let mut sizes = ArrayVec::new();
+    for node in block.nodes {
+        let sizing = Sizing {
+            block,
+            earlier: &sizes,
+        };
+        let size = sizing.node_size(&view_of(node, block.cells));
+        sizes.push(size);
     }
     sizes
 }
 
-// The size of node `k`.
-fn size_of(block: &BlockView<'_>, k: usize) -> Size
-    requires { length block.now.nodes.now ≤ 8 }
-    ensures { size_in result ≡ capped_size (slice_index_or (sizes (block_of block.now)) k no_size) }
+fn small(block: &HeldBlock<'_>, number: usize, node: &NodeView<'_>) -> bool
+    ensures { result ≡ small (block_of block.now.view) number (node_of node.now) }
 {
-    size_at(&sizes_of(block), k)
+    size_at(&sizes_of(block), number).is_small(node.flows.len())
 }
 
-fn small(block: &BlockView<'_>, k: usize, node: &NodeView<'_>) -> bool
-    requires { length block.now.nodes.now ≤ 8 }
-    ensures { result ≡ small (block_of block.now) k (node_of node.now) }
+// Whether the node of this number, where it is the main one, has an expansion that is not too large.
+pub fn main_small(block: &HeldBlock<'_>, number: usize, node: &NodeView<'_>) -> bool
+    ensures { result ≡ main_small (block_of block.now.view) number (node_of node.now) }
 {
-    size_of(block, k).is_small(node.flows.len())
-}
-
-// Whether node `k`, where it is the main one, has an expansion that is not too large.
-pub fn main_small(block: &BlockView<'_>, k: usize, node: &NodeView<'_>) -> bool
-    requires { length block.now.nodes.now ≤ 8 }
-    ensures { result ≡ main_small (block_of block.now) k (node_of node.now) }
-{
-    !is_main(block, k) || small(block, k, node)
+    !is_main(&block.view, number) || small(block, number, node)
 }

@@ -1,6 +1,5 @@
 -- Joins of lists, by the laws alone.
-use Rattle.std.proofs.Common.{◌≡◌, ℕ, ◌+◌, ◌<◌, ◌≤◌, Bool, true, false, ◌&&◌, T, List, [], ◌∷◌, length, get_or, drop, sym, refl, ap, ◌∙◌}
-use Rattle.std.proofs.lemmas.List.{at_drop_more, at_drop_all}
+use Rattle.std.proofs.Common.{◌≡◌, Bool, true, false, ◌&&◌, T, List, [], ◌∷◌, fold, sym, refl, ap, ◌∙◌}
 use Rattle.classes.specs.Classes.{Classes, ClassLaws, joined, UpperBound, all_below}
 
 -- a test that holds exactly when two do is their conjunction
@@ -18,10 +17,10 @@ module _ {C : Type 0} {m : Classes C} (laws : ClassLaws m) where
   same_above x y h k = laws.antisymmetric x y (k y (laws.reflexive y)) (h x (laws.reflexive x))
 
   -- what a join is below, so is each of its parts
-  first_below : (x y z : C) → T (m.below (m.join x y) z) → T (m.below x z)
+  pub first_below : (x y z : C) → T (m.below (m.join x y) z) → T (m.below x z)
   first_below x y z h = laws.transitive x (m.join x y) z (laws.join_first x y) h
 
-  second_below : (x y z : C) → T (m.below (m.join x y) z) → T (m.below y z)
+  pub second_below : (x y z : C) → T (m.below (m.join x y) z) → T (m.below y z)
   second_below x y z h = laws.transitive y (m.join x y) z (laws.join_second x y) h
 
   -- what is above the join of a list is above each of its classes, and the other way round
@@ -52,23 +51,13 @@ module _ {C : Type 0} {m : Classes C} (laws : ClassLaws m) where
   join_bottom : (x : C) → m.join x m.bottom ≡ x
   join_bottom x = same_above _ _ (first_below x m.bottom) (λ t h. laws.join_least x m.bottom t h (laws.bottom_least t))
 
-  -- a class joined with those that are left is the join of all; from turn to turn
-  abbrev pub Joining : List C → ℕ → C → Type 0
-  Joining xs i a = m.join a (joined m (drop i xs)) ≡ joined m xs
+  -- a fold from a class on joins that class with the join of the list
+  fold_join : (xs : List C) (a : C) → fold m.join a xs ≡ m.join a (joined m xs)
+  fold_join [] a = sym (join_bottom a)
+  fold_join (x ∷ xs) a = fold_join xs (m.join a x) ∙ sym (join_assoc a x (joined m xs))
 
-  pub joining_none : (xs : List C) (a : C) → a ≡ m.bottom → Joining xs 0 a
-  joining_none xs a e = ap (λ b. m.join b (joined m xs)) e ∙ bottom_join (joined m xs)
-
-  pub joining_more : (xs : List C) (i : ℕ) (a b x : C) → i < length xs → x ≡ get_or xs i x → b ≡ m.join a x → Joining xs i a → Joining xs (i + 1) b
-  joining_more xs i a b x l read e h =
-      ap (λ c. m.join c (joined m (drop (i + 1) xs))) e
-      ∙ sym (join_assoc a x (joined m (drop (i + 1) xs)))
-      ∙ ap (λ c. m.join a (m.join c (joined m (drop (i + 1) xs)))) read
-      ∙ sym (ap (m.join a) (at_drop_more (joined m) xs i x l))
-      ∙ h
-
-  pub joining_all : (xs : List C) (i : ℕ) (a : C) → length xs ≤ i → Joining xs i a → a ≡ joined m xs
-  joining_all xs i a l h = sym (ap (m.join a) (at_drop_all (joined m) xs i l) ∙ join_bottom a) ∙ h
+  pub fold_joined : (xs : List C) → fold m.join m.bottom xs ≡ joined m xs
+  fold_joined xs = fold_join xs m.bottom ∙ bottom_join (joined m xs)
 
   -- the test of each class is the test of their join
   pub test_joined : (xs : List C) (z : C) → all_below m xs z ≡ m.below (joined m xs) z
@@ -77,22 +66,3 @@ module _ {C : Type 0} {m : Classes C} (laws : ClassLaws m) where
       let y = joined m xs in
       ap (λ (t : Bool). m.below x z && t) (test_joined xs z)
       ∙ and_test (m.below x z) (m.below y z) (m.below (m.join x y) z) (laws.join_least x y z) (first_below x y z) (second_below x y z)
-
-  -- the test of the classes that are left is the test of all; from turn to turn
-  abbrev pub Testing : List C → C → ℕ → Type 0
-  Testing xs z i = all_below m (drop i xs) z ≡ all_below m xs z
-
-  turn : (xs : List C) (z : C) (i : ℕ) (x : C) (t : Bool) → i < length xs → x ≡ get_or xs i x → t ≡ m.below x z → Testing xs z i → (t && all_below m (drop (i + 1) xs) z) ≡ all_below m xs z
-  turn xs z i x t l read e h =
-      ap (λ b. b && all_below m (drop (i + 1) xs) z) (e ∙ ap (λ y. m.below y z) read)
-      ∙ sym (at_drop_more (λ ys. all_below m ys z) xs i x l)
-      ∙ h
-
-  pub testing_more : (xs : List C) (z : C) (i : ℕ) (x : C) (t : Bool) → i < length xs → x ≡ get_or xs i x → t ≡ m.below x z → t ≡ true → Testing xs z i → Testing xs z (i + 1)
-  testing_more xs z i x t l read e passed h = turn xs z i x true l read (sym passed ∙ e) h
-
-  pub testing_stops : (xs : List C) (z : C) (i : ℕ) (x : C) (t : Bool) → i < length xs → x ≡ get_or xs i x → t ≡ m.below x z → t ≡ false → Testing xs z i → false ≡ all_below m xs z
-  testing_stops xs z i x t l read e failed h = turn xs z i x false l read (sym failed ∙ e) h
-
-  pub testing_all : (xs : List C) (z : C) (i : ℕ) → length xs ≤ i → Testing xs z i → true ≡ all_below m xs z
-  testing_all xs z i l h = sym (at_drop_all (λ ys. all_below m ys z) xs i l) ∙ h

@@ -1,6 +1,6 @@
 -- What a system of classes is, and what holds of any.
-use Rattle.std.specs.Prelude.{◌≡◌, ℕ, Bool, true, ◌&&◌, T, List, [], ◌∷◌, Option}
-use Rattle.std.specs.List.{AllByRecursion}
+use Rattle.std.specs.Prelude.{◌≡◌, ℕ, Bool, T, List, [], ◌∷◌, Option}
+use Rattle.std.specs.List.{AllByRecursion, list_all}
 
 -- the answers of a system whose classes are of type C
 pub record Classes (C : Type 0) : Type 0 where
@@ -41,5 +41,4 @@ UpperBound m xs z = AllByRecursion (λ x. T (m.below x z)) xs
 
 -- the same, as a test
 abbrev pub all_below : {C : Type 0} → Classes C → List C → C → Bool
-all_below m [] z = true
-all_below m (x ∷ xs) z = m.below x z && all_below m xs z
+all_below m xs z = list_all (λ x. m.below x z) xs

@@ -1,5 +1,6 @@
 -- The systems of this crate.
 use Rattle.std.specs.Prelude.{◌≡◌, ℕ, ◌/◌, ◌%◌, ◌^◌, ◌<◌, max, cond, ◌&&◌, T, ◌⊎◌, ◌↔◌, Some, None, Option, ◌==◌, bit_or, nat_le}
+use Rattle.std.specs.Int.{bit_at}
 use Rattle.classes.specs.declared.pair.Both.{Both}
 use Rattle.classes.specs.Classes.{Classes}
 
@@ -24,7 +25,7 @@ compartments = record {
 
 -- i is a member of the set a: bit i of a is 1
 abbrev pub Member : ℕ → ℕ → Type 0
-Member i a = a / 2 ^ i % 2 ≡ 1
+Member i a = bit_at a i ≡ 1
 
 -- what compartments are by their members
 pub record CompartmentMembers : Type 0 where

@@ -9,11 +9,9 @@ pub fn join_all<S: ClassSystem>(system: &S, classes: &[S::Class]) -> S::Class
     ensures above { UpperBound (S.ClassSystem.meaning system.now) classes.now result }
     ensures least { (z : S.Class) → UpperBound (S.ClassSystem.meaning system.now) classes.now z → T ((S.ClassSystem.meaning system.now).below result z) }
 {
-    let mut all = system.bottom();
-    for class in classes {
-        all = system.join(all, *class);
-    }
-    all
+    classes
+        .iter()
+        .fold(system.bottom(), |all, class| system.join(all, *class))
 }
 
 // Whether each of these is at or below the bound; that is, whether their join is.
@@ -21,10 +19,7 @@ pub fn all_at_or_below<S: ClassSystem>(system: &S, classes: &[S::Class], bound: 
     ensures each { result ≡ all_below (S.ClassSystem.meaning system.now) classes.now bound }
     ensures join { result ≡ (S.ClassSystem.meaning system.now).below (joined (S.ClassSystem.meaning system.now) classes.now) bound }
 {
-    for class in classes {
-        if !system.at_or_below(*class, bound) {
-            return false;
-        }
-    }
-    true
+    classes
+        .iter()
+        .all(|class| system.at_or_below(*class, bound))
 }

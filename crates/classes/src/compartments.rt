@@ -1,3 +1,4 @@
+ghost use Rattle.std.specs.Prelude.{◌≡◌};
 ghost use Rattle.classes.specs.Systems.{compartments};
 ghost use Rattle.classes.specs.Members.{compartments_lawful};
 
@@ -5,11 +6,13 @@ use crate::system::ClassSystem;
 
 // Sets of at most 16 members: bit i of a set says whether i is a member. Every code is the set of its bits.
 #[derive(Clone, Copy)]
-pub struct Compartments {}
+pub struct Compartments;
 
 impl Compartments {
-    pub fn new() -> Compartments {
-        Compartments {}
+    pub fn new() -> Compartments
+        ensures { ⟦<Compartments as ClassSystem>⟧.meaning result ≡ compartments }
+    {
+        Compartments
     }
 }
 

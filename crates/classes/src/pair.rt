@@ -5,7 +5,7 @@ ghost use Rattle.std.proofs.Common.{rules};
 use crate::system::ClassSystem;
 
 // A class of each of two systems.
-#[derive(Clone, Copy)]
+#[derive(Clone, Copy, Debug, PartialEq, Eq)]
 pub struct Both<X, Y> {
     pub first: X,
     pub second: Y,
@@ -57,9 +57,10 @@ impl<A: ClassSystem, B: ClassSystem> ClassSystem for Pair<A, B> {
     }
 
     fn named(&self, code: u16) -> Option<Both<A::Class, B::Class>> {
-        match (self.first.named(code / 256), self.second.named(code % 256)) {
-            (Some(first), Some(second)) => Some(Both { first, second }),
-            _ => None,
-        }
+        let [high, low] = code.to_be_bytes();
+        Some(Both {
+            first: self.first.named(u16::from(high))?,
+            second: self.second.named(u16::from(low))?,
+        })
     }
 }

@@ -30,7 +30,7 @@ impl ClassSystem for Ranks {
     }
 
     fn join(&self, a: u8, b: u8) -> u8 {
-        if a < b { b } else { a }
+        a.max(b)
     }
 
     fn at_or_below(&self, a: u8, b: u8) -> bool {
@@ -38,10 +38,8 @@ impl ClassSystem for Ranks {
     }
 
     fn named(&self, code: u16) -> Option<u8> {
-        if code <= u16::from(self.top) {
-            Some(code as u8)
-        } else {
-            None
-        }
+        // Read before the test: that the top is a byte matters just where the code is none.
+        let top = self.top;
+        u8::try_from(code).ok().filter(|rank| *rank <= top)
     }
 }

@@ -1,6 +1,6 @@
 use crate::bounds::{all_at_or_below, join_all};
 use crate::compartments::Compartments;
-use crate::pair::Pair;
+use crate::pair::{Both, Pair};
 use crate::ranks::Ranks;
 use crate::system::ClassSystem;
 use std::test::Fail;
@@ -37,11 +37,14 @@ fn compartments(rt: HostRuntime) {
 fn pair(rt: HostRuntime) -> Result<(), Fail> {
     let pair = Pair::new(Ranks::new(1), Ranks::new(2));
     let class = pair.named(0x0102).ok_or("0x0102")?;
-    assert_eq!(rt; (class.first, class.second), (1, 2));
     assert_eq!(rt;
-        [pair.named(0x0200).is_none(), pair.named(0x0003).is_none()],
-        [true, true]
+        class,
+        Both {
+            first: 1,
+            second: 2
+        }
     );
+    assert_eq!(rt; [pair.named(0x0200), pair.named(0x0003)], [None, None]);
     let low = pair.named(0x0002).ok_or("0x0002")?;
     assert_eq!(rt;
         [pair.at_or_below(low, class), pair.at_or_below(class, low)],
@@ -56,10 +59,17 @@ fn pair_of_pairs(rt: HostRuntime) -> Result<(), Fail> {
     let a = outer.named(0x0304).ok_or("0x0304")?;
     let b = outer.named(0x0502).ok_or("0x0502")?;
     let joined = join_all(&outer, &[a, b]);
+    let second = Both {
+        first: 0,
+        second: 4,
+    };
     assert_eq!(rt;
-        (joined.first, joined.second.first, joined.second.second),
-        (0x07, 0, 4)
+        joined,
+        Both {
+            first: 0x07,
+            second
+        }
     );
-    assert!(rt; outer.named(0x0306).is_none());
+    assert_eq!(rt; outer.named(0x0306), None);
     Ok(())
 }

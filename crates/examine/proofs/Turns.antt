@@ -1,77 +1,100 @@
 -- Turns of the loops over equations, nodes and checks.
-use Rattle.std.proofs.Common.{◌≡◌, ℕ, suc, ◌+◌, ◌-◌, ◌<◌, ◌≤◌, Bool, true, false, ◌∷◌, ◌++◌, length, get_or, drop, Some, None, Ok, Err, Decides, Option, sym, refl, ap, ◌∙◌, subst, arith}
-use Rattle.std.proofs.lemmas.List.{length-map, at_drop_more, at_drop_all}
+use Rattle.std.proofs.Common.{◌≡◌, ℕ, zero, suc, ◌+◌, ◌<◌, ◌≤◌, Bool, true, false, ◌∷◌, ◌++◌, length, get_or, drop, Some, None, Ok, Err, Decides, Option, sym, refl, ap, ◌∙◌, subst, arith}
+use Rattle.std.proofs.lemmas.List.{get_or-map, length-map, at_drop_more, at_drop_all}
 use Rattle.std.proofs.lemmas.Bool.Decides.{not_from_Decides}
 use Rattle.syntax.specs.Syntax.{BlockSyntax}
 use Rattle.syntax.specs.Encoder.{joined}
 use Rattle.layout.specs.declared.node.Equation.{Equation}
+use Rattle.layout.specs.declared.node.Form.TheVariants.{Plain}
 use Rattle.layout.specs.Layout.{equation_in}
 use Rattle.rules.specs.declared.fault.Check.{Check}
 use Rattle.rules.specs.declared.fault.Place.{Place}
+use Rattle.rules.specs.declared.view.BlockView.{BlockView}
 use Rattle.rules.specs.declared.view.NodeView.{NodeView}
+use Rattle.checks.specs.declared.place.NodeInBlock.{NodeInBlock}
 use Rattle.rules.specs.declared.fault.ExamineFault.{ExamineFault}
 use Rattle.rules.specs.Faults.{fault_at}
-use Rattle.rules.specs.Names.{node_at, equation_at, no_node}
-use Rattle.rules.specs.Views.{node_of}
+use Rattle.rules.specs.Names.{node_at, equation_at, no_equation, no_node}
+use Rattle.rules.specs.Views.{block_of, node_of}
 use Rattle.rules.specs.Examined.{First, Holds, NodeHolds, EquationHolds, Examined, Question, none, fails, holds, equation_places, node_places, places_from, places, questions_of, questions, checks}
-use Rattle.rules.proofs.Firsts.{Left, left_more, left_stops, left_after, left_before, first_map}
+use Rattle.examine.specs.Failures.{FirstFailure}
+use Rattle.std.specs.Option.{option_map}
+use Rattle.rules.proofs.Firsts.{Left, left_after, left_before, first_map}
 
--- equation i of node k
+-- equation i of node k, and node k as a whole
 abbrev pub at_equation : ℕ → ℕ → Place
 at_equation k i = record { node = k; equation = Some i }
 
-module _ (b : BlockSyntax) (c : Check) (k : ℕ) where
-  -- what was asked of a row is asked of the equation at its place
-  equation_asked : (v : NodeView) (i : ℕ) (e : Equation) (r : Bool) → node_of v ≡ node_at b k → equation_in v.cells.now e ≡ equation_at (node_of v) i → Decides r (EquationHolds b c k (node_of v) (equation_in v.cells.now e)) → Decides r (Holds b c (at_equation k i))
-  equation_asked v i e r same row d =
-      subst (λ n. Decides r (EquationHolds b c k n (equation_at n i))) same
-      (subst (λ x. Decides r (EquationHolds b c k (node_of v) x)) row d)
-
-  places_more : (i len : ℕ) → i < len → equation_places k i (len - i) ≡ at_equation k i ∷ equation_places k (i + 1) (len - (i + 1))
-  unfolding equation_places
-  places_more i len l =
-      let s : len - i ≡ suc (len - (i + 1)) = omega arith in
-      ap (equation_places k i) s
-
-  -- the equations from i on decide for all of them
-  abbrev pub EquationsLeft : ℕ → ℕ → Type 0
-  EquationsLeft len i = Left (Holds b c) (equation_places k 0 len) (equation_places k i (len - i))
-
-  module _ (v : NodeView) (i len : ℕ) (e : Equation) (r : Bool) (same : node_of v ≡ node_at b k) (row : equation_in v.cells.now e ≡ equation_at (node_of v) i) (d : Decides r (EquationHolds b c k (node_of v) (equation_in v.cells.now e))) (l : i < len) (w : EquationsLeft len i) where
-    pub equations_more : r ≡ true → EquationsLeft len (i + 1)
-    equations_more passed =
-        left_more (Holds b c) (equation_places k 0 len) (at_equation k i) (equation_places k (i + 1) (len - (i + 1))) (subst (Left (Holds b c) (equation_places k 0 len)) (places_more i len l) w) ((equation_asked v i e r same row d).0 passed)
-
-    pub equations_stop : r ≡ false → First (Holds b c) (equation_places k 0 len) (Some (at_equation k i))
-    equations_stop failed =
-        left_stops (Holds b c) (equation_places k 0 len) (at_equation k i) (equation_places k (i + 1) (len - (i + 1))) (subst (Left (Holds b c) (equation_places k 0 len)) (places_more i len l) w) (not_from_Decides r (equation_asked v i e r same row d) failed)
-
-  pub equations_none : (len : ℕ) → EquationsLeft len 0
-  equations_none len r f =
-      let s : len - 0 ≡ len = omega arith in
-      subst (λ n. First (Holds b c) (equation_places k 0 n) r) s f
-
-  pub equations_all : (i len : ℕ) → len ≤ i → EquationsLeft len i → First (Holds b c) (equation_places k 0 len) None
-  unfolding equation_places
-  equations_all i len l w =
-      let s : len - i ≡ 0 = omega arith in
-      w None (subst (λ n. First (Holds b c) (equation_places k i n) None) (sym s) none)
-
--- node k as a whole
 abbrev pub at_node : ℕ → Place
 at_node k = record { node = k; equation = None }
 
-module _ (b : BlockSyntax) (c : Check) (k : ℕ) (v : NodeView) (same : node_of v ≡ node_at b k) (r : Bool) (d : Decides r (NodeHolds b c k (node_of v))) where
-  node_asked : Decides r (Holds b c (at_node k))
-  node_asked = subst (λ n. Decides r (NodeHolds b c k n)) same d
+module _ (P : Place → Type 0) (k : ℕ) where
+  none_fails : (i len : ℕ) → ((j : ℕ) → i ≤ j → j < i + len → P (at_equation k j)) → First P (equation_places k i len) None
+  unfolding equation_places
+  none_fails i zero h = none
+  none_fails i (suc len) h =
+      holds (h i (omega arith) (omega arith)) (none_fails (i + 1) len (λ j l u. h j (omega arith) (omega arith)))
 
-  pub node_stops : r ≡ false → First (Holds b c) (node_places k (node_at b k)) (Some (at_node k))
+  one_fails : (i len m : ℕ) → m < len → ((j : ℕ) → i ≤ j → j < i + m → P (at_equation k j)) → (P (at_equation k (i + m)) → ⊥) → First P (equation_places k i len) (Some (at_equation k (i + m)))
+  unfolding equation_places
+  one_fails i zero m l h f = absurd (omega arith)
+  one_fails i (suc len) zero l h f =
+      let here : i + 0 ≡ i = omega arith in
+      subst (λ j. First P (at_equation k i ∷ equation_places k (i + 1) len) (Some (at_equation k j))) (sym here) (fails (subst (λ j. P (at_equation k j) → ⊥) here f))
+  one_fails i (suc len) (suc m) l h f =
+      let on : i + 1 + m ≡ i + suc m = omega arith in
+      holds (h i (omega arith) (omega arith))
+      (subst (λ j. First P (equation_places k (i + 1) len) (Some (at_equation k j))) on
+      (one_fails (i + 1) len m (omega arith) (λ j g u. h j (omega arith) (omega arith)) (subst (λ j. P (at_equation k j) → ⊥) (sym on) f)))
+
+blank_equation : Equation
+blank_equation = record { clock = 0; form = Plain 0 record { from = 0; len = 0 } }
+
+-- what a check asks of the row of an equation
+abbrev pub RowHolds : BlockSyntax → Check → ℕ → NodeView → Equation → Type 0
+RowHolds b c k v e = EquationHolds b c k (node_of v) (equation_in v.cells.now e)
+
+module _ (b : BlockSyntax) (c : Check) (k : ℕ) (v : NodeView) (same : node_of v ≡ node_at b k) where
+  abbrev row : ℕ → Equation
+  row i = get_or v.equations.now i blank_equation
+
+  equation_row : (i : ℕ) → i < length v.equations.now → equation_in v.cells.now (row i) ≡ equation_at (node_of v) i
+  equation_row i l = sym (get_or-map (equation_in v.cells.now) v.equations.now i blank_equation no_equation l)
+
+  -- what is asked of a row is asked of the equation at its place
+  at_place : (i : ℕ) → i < length v.equations.now → RowHolds b c k v (row i) → Holds b c (at_equation k i)
+  at_place i l h = subst (λ n. EquationHolds b c k n (equation_at n i)) same (subst (EquationHolds b c k (node_of v)) (equation_row i l) h)
+
+  at_row : (i : ℕ) → i < length v.equations.now → Holds b c (at_equation k i) → RowHolds b c k v (row i)
+  at_row i l h = subst (EquationHolds b c k (node_of v)) (sym (equation_row i l)) (subst (λ n. EquationHolds b c k n (equation_at n i)) (sym same) h)
+
+  pub first_of_rows : (r : Option ℕ) → FirstFailure (RowHolds b c k v) v.equations.now r → First (Holds b c) (equation_places k 0 (length v.equations.now)) (option_map (at_equation k) r)
+  first_of_rows None all = none_fails (Holds b c) k 0 (length v.equations.now) (λ j l u. at_place j (omega arith) (all j blank_equation (omega arith)))
+  first_of_rows (Some i) (l, failed, held) =
+      let here : 0 + i ≡ i = omega arith in
+      subst (λ j. First (Holds b c) (equation_places k 0 (length v.equations.now)) (Some (at_equation k j))) here
+      (one_fails (Holds b c) k 0 (length v.equations.now) i l
+      (λ j g u. at_place j (omega arith) (held j blank_equation g (omega arith)))
+      (λ h. failed blank_equation (at_row i l (subst (λ j. Holds b c (at_equation k j)) here h))))
+
+-- node k of a block, at which a check was asked of the node as a whole
+module _ (w : BlockView) (c : Check) (k : ℕ) (at : NodeInBlock) (from : at.block ≡ w) (numbered : at.number ≡ k) (same : node_of at.node ≡ node_at (block_of w) k) (r : Bool) (d : Decides r (NodeHolds (block_of w) c k (node_of at.node))) where
+  -- what is known of the block and number that are held is known of those that they are
+  known : (P : BlockSyntax → ℕ → Type 0) → P (block_of at.block) at.number → P (block_of w) k
+  known P h = subst (P (block_of w)) numbered (subst (λ x. P (block_of x) at.number) from h)
+
+  node_asked : Decides r (Holds (block_of w) c (at_node k))
+  node_asked = subst (λ n. Decides r (NodeHolds (block_of w) c k n)) same d
+
+  pub node_stops : r ≡ false → First (Holds (block_of w) c) (node_places k (node_at (block_of w) k)) (Some (at_node k))
   node_stops failed = fails (not_from_Decides r node_asked failed)
 
-  pub node_goes_on : r ≡ true → (p : Option Place) → First (Holds b c) (equation_places k 0 (length v.equations.now)) p → First (Holds b c) (node_places k (node_at b k)) p
-  node_goes_on passed p f =
-      let e = sym (length-map v.equations.now (equation_in v.cells.now)) ∙ ap (λ n. length n.equations) same in
-      holds (node_asked.0 passed) (subst (λ n. First (Holds b c) (equation_places k 0 n) p) e f)
+  pub node_goes_on : r ≡ true → (o : Option ℕ) → FirstFailure (RowHolds (block_of at.block) c at.number at.node) at.node.equations.now o → First (Holds (block_of w) c) (node_places k (node_at (block_of w) k)) (option_map (at_equation k) o)
+  node_goes_on passed o f =
+      let v = at.node in
+      let many = sym (length-map v.equations.now (equation_in v.cells.now)) ∙ ap (λ n. length n.equations) same in
+      let found = first_of_rows (block_of w) c k v same o (known (λ b j. FirstFailure (RowHolds b c j v) v.equations.now o) f) in
+      holds (node_asked.0 passed) (subst (λ n. First (Holds (block_of w) c) (equation_places k 0 n) (option_map (at_equation k) o)) many found)
 
 module _ (b : BlockSyntax) (c : Check) where
   -- the nodes from k on decide for all of them

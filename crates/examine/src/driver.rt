@@ -1,14 +1,16 @@
-ghost use Rattle.std.specs.Prelude.{◌≡◌, ◌<◌, ◌≤◌, length};
+ghost use Rattle.std.specs.Prelude.{◌<◌, length};
+ghost use Rattle.examine.specs.Failures.{FirstFailure};
 ghost use Rattle.layout.specs.Held.{block_in};
-ghost use Rattle.rules.specs.Examined.{First, Holds, Examined, equation_places, node_places, places};
+ghost use Rattle.layout.specs.Layout.{equation_in};
+ghost use Rattle.rules.specs.Examined.{EquationHolds, Examined, First, Holds, node_places, places};
 ghost use Rattle.rules.specs.Names.{node_at};
 ghost use Rattle.rules.specs.Views.{node_of, block_of};
 
 use crate::asking::{equation_holds, node_holds};
 use block::rows::Rows;
+use checks::place::NodeInBlock;
 use rules::fault::{Check, ExamineFault, Place};
-use rules::view::looking::node_view;
-use rules::view::{BlockView, NodeView};
+use rules::view::{BlockView, HeldBlock};
 
 // The checks, in the order in which they are made.
 const CHECKS: [Check; 7] = [
@@ -21,66 +23,54 @@ const CHECKS: [Check; 7] = [
     Check::Size,
 ];
 
-// The first equation of node k at which a check fails.
-fn first_equation(
-    block: &BlockView<'_>,
-    check: Check,
-    k: usize,
-    node: &NodeView<'_>,
-) -> Option<Place>
-    requires { node_of node.now ≡ node_at (block_of block.now) k }
-    ensures { First (Holds (block_of block.now) check) (equation_places k 0 (length node.now.equations.now)) result }
+// The number of the first equation of a node at which a check fails.
+fn first_equation(at: &NodeInBlock<'_>, check: Check) -> Option<usize>
+    ensures { FirstFailure (λ e. EquationHolds (block_of at.now.block) check at.now.number (node_of at.now.node) (equation_in at.now.node.cells.now e)) at.now.node.equations.now result }
 {
-    for i in 0..node.equations.len() {
-        if !equation_holds(block, check, k, node, &node.equations[i]) {
-            return Some(Place {
-                node: k,
-                equation: Some(i),
-            });
-        }
-    }
-    None
+    at.node
+        .equations
+        .iter()
+        .position(|equation| !equation_holds(at, check, equation))
 }
 
-// The first place in node k at which a check fails.
-fn first_in_node(block: &BlockView<'_>, check: Check, k: usize) -> Option<Place>
-    requires few { length block.now.nodes.now ≤ 8 }
-    requires inside { k < length block.now.nodes.now }
-    ensures { First (Holds (block_of block.now) check) (node_places k (node_at (block_of block.now) k)) result }
+// The first place in a node at which a check fails.
+fn first_in_node(block: &HeldBlock<'_>, check: Check, number: usize) -> Option<Place>
+    requires { number < length block.now.view.nodes.now }
+    ensures { First (Holds (block_of block.now.view) check) (node_places number (node_at (block_of block.now.view) number)) result }
 {
-    let node = node_view(block, k);
-    if !node_holds(block, check, k, &node) {
+    let at = NodeInBlock::by_number(&block.view, number);
+    if !node_holds(block, check, number, &at.node) {
         return Some(Place {
-            node: k,
+            node: number,
             equation: None,
         });
     }
-    first_equation(block, check, k, &node)
+    let equation = first_equation(&at, check)?;
+    Some(Place {
+        node: number,
+        equation: Some(equation),
+    })
 }
 
 // The first place in a block at which a check fails.
-fn first_in_block(block: &BlockView<'_>, check: Check) -> Option<Place>
-    requires { length block.now.nodes.now ≤ 8 }
-    ensures { First (Holds (block_of block.now) check) (places (block_of block.now)) result }
+fn first_in_block(block: &HeldBlock<'_>, check: Check) -> Option<Place>
+    ensures { First (Holds (block_of block.now.view) check) (places (block_of block.now.view)) result }
 {
-    for k in 0..block.nodes.len() {
-        match first_in_node(block, check, k) {
-            Some(place) => return Some(place),
-            None => {}
+    for number in 0..block.view.nodes.len() {
+        if let Some(place) = first_in_node(block, check, number) {
+            return Some(place);
         }
     }
     None
 }
 
 // Makes the checks one after another.
-fn examine_block(block: &BlockView<'_>) -> Result<(), ExamineFault>
-    requires { length block.now.nodes.now ≤ 8 }
-    ensures { Examined (block_of block.now) result }
+fn examine_block(block: &HeldBlock<'_>) -> Result<(), ExamineFault>
+    ensures { Examined (block_of block.now.view) result }
 {
     for check in CHECKS {
-        match first_in_block(block, check) {
-            Some(place) => return Err(check.fault_at(place)),
-            None => {}
+        if let Some(place) = first_in_block(block, check) {
+            return Err(check.fault_at(place));
         }
     }
     Ok(())
@@ -90,8 +80,9 @@ fn examine_block(block: &BlockView<'_>) -> Result<(), ExamineFault>
 pub fn examine(rows: &Rows<'_>) -> Result<(), ExamineFault>
     ensures { Examined (block_in rows.now.table) result }
 {
-    examine_block(&BlockView {
+    let view = BlockView {
         nodes: rows.nodes(),
         cells: rows.cells(),
-    })
+    };
+    examine_block(&HeldBlock { view })
 }

@@ -3,11 +3,11 @@ use Rattle.std.proofs.Common.{◌≡◌, ℕ, zero, suc, ◌<◌, Bool, true, fa
 use mathlib.Core.Bool.{beq}
 use Rattle.std.specs.List.{AllZip, AllByRecursion}
 use Rattle.std.specs.Int.{int_wrap}
+use Rattle.std.specs.Ordering.{int_eq}
 use Rattle.syntax.specs.declared.cell.UnaryOp.TheVariants.{Not}
 use Rattle.classes.specs.Classes.{joined}
 use Rattle.classes.specs.Systems.{ranked}
 use Rattle.numbers.specs.Points.{points}
-use Rattle.numbers.specs.Integers.{same_z}
 use Rattle.flat.specs.declared.value.Value.{Value}
 use Rattle.flat.specs.declared.value.Value.TheVariants.{Truth, Number}
 use Rattle.flat.specs.Programs.{Program, size, row, clock_flows, needs, sources}
@@ -61,7 +61,7 @@ Met p class x = Constraint (ranked 255) p class x
 
 -- ---- negation
 
-negation_beat : {h h' : Held ℤ} {z : ℤ} {a : Answers ℤ} → Beat points negation h (z ∷ []) a h' → a 1 ≡ Some (Truth (not (not (same_z z (pos 0)))))
+negation_beat : {h h' : Held ℤ} {z : ℤ} {a : Answers ℤ} → Beat points negation h (z ∷ []) a h' → a 1 ≡ Some (Truth (not (not (int_eq z (pos 0)))))
 negation_beat B = B.answered 1 (omega arith) ∙ ap (unary_value points Not) (B.answered 0 (omega arith))
 
 negation_run : {h h' : Held ℤ} {as' : List (Answers ℤ)} → Run points negation h ((pos 0 ∷ []) ∷ (pos 5 ∷ []) ∷ []) as' h'
@@ -168,7 +168,7 @@ tallies = record {
 -- ---- shown
 
 shown_beat : {h h' : Held ℤ} {s d : ℤ} {a : Answers ℤ} → Beat points shown h (s ∷ d ∷ []) a h'
-    → a 2 ≡ gate (not (same_z d (pos 0))) (gate (not (same_z d (pos 0))) (Some (Number s)))
+    → a 2 ≡ gate (not (int_eq d (pos 0))) (gate (not (int_eq d (pos 0))) (Some (Number s)))
 shown_beat B =
     B.answered 2 (omega arith)
     ∙ ap₂ (λ u v. gate (says true u) (gate (says true u) v)) (B.answered 1 (omega arith)) (B.answered 0 (omega arith))
@@ -222,7 +222,7 @@ shows = record {
 -- ---- clocks
 
 pulse_beat : {h h' : Held ℤ} {z : ℤ} {a : Answers ℤ} → Beat points pulse h (z ∷ []) a h'
-    → (a 1 ≡ gate (not (same_z z (pos 0))) (Some (h 1))) × (h' 1 ≡ cond (not (same_z z (pos 0))) (Number (pos 5)) (h 1))
+    → (a 1 ≡ gate (not (int_eq z (pos 0))) (Some (h 1))) × (h' 1 ≡ cond (not (int_eq z (pos 0))) (Number (pos 5)) (h 1))
 pulse_beat {h} B = (
   B.answered 1 (omega arith) ∙ ap (λ u. gate (says true u) (Some (h 1))) (B.answered 0 (omega arith)),
   B.renews 1 (omega arith) ∙ ap (λ u. cond (says true u) (Number (pos 5)) (h 1)) (B.answered 0 (omega arith)),
@@ -239,7 +239,7 @@ pulse_run e (beat A (beat B (beat D (beat E none)))) =
     let second = f.0 ∙ ap Some (d.1 ∙ b.1) in
     λ i. a.0 i ∷ first i ∷ d.0 i ∷ second i ∷ []
 
-lamp_beat : {h h' : Held ℤ} {z : ℤ} {a : Answers ℤ} → Beat points lamp h (z ∷ []) a h' → a 1 ≡ gate (not (same_z z (pos 0))) (Some (Number (pos 5)))
+lamp_beat : {h h' : Held ℤ} {z : ℤ} {a : Answers ℤ} → Beat points lamp h (z ∷ []) a h' → a 1 ≡ gate (not (int_eq z (pos 0))) (Some (Number (pos 5)))
 lamp_beat B = B.answered 1 (omega arith) ∙ ap (λ u. gate (says true u) (Some (Number (pos 5)))) (B.answered 0 (omega arith))
 
 lamp_run : {h h' : Held ℤ} {as' : List (Answers ℤ)} → Run points lamp h ((pos 0 ∷ []) ∷ (pos 1 ∷ []) ∷ []) as' h'
@@ -247,11 +247,11 @@ lamp_run : {h h' : Held ℤ} {as' : List (Answers ℤ)} → Run points lamp h ((
 lamp_run (beat A (beat B none)) = λ i. lamp_beat A i ∷ lamp_beat B i ∷ []
 
 nested_beat : {h h' : Held ℤ} {x y z : ℤ} {a : Answers ℤ} → Beat points nested h (x ∷ y ∷ z ∷ []) a h'
-    → a 0 ≡ gate (says {N = ℤ} true (gate (not (not (same_z z (pos 0)))) (Some (Truth (not (same_z y (pos 0))))))) (Some (Number x))
+    → a 0 ≡ gate (says {N = ℤ} true (gate (not (not (int_eq z (pos 0)))) (Some (Truth (not (int_eq y (pos 0))))))) (Some (Number x))
 nested_beat {x = x} {y = y} B =
     B.answered 0 (omega arith)
     ∙ ap (λ u. gate (says true u) (Some (Number x)))
-    (B.answered 1 (omega arith) ∙ ap (λ u. gate (says false u) (Some (Truth (not (same_z y (pos 0)))))) (B.answered 2 (omega arith)))
+    (B.answered 1 (omega arith) ∙ ap (λ u. gate (says false u) (Some (Truth (not (int_eq y (pos 0)))))) (B.answered 2 (omega arith)))
 
 nested_run : {h h' : Held ℤ} {as' : List (Answers ℤ)}
     → Run points nested h ((pos 5 ∷ pos 1 ∷ pos 0 ∷ []) ∷ (pos 5 ∷ pos 0 ∷ pos 0 ∷ []) ∷ (pos 5 ∷ pos 1 ∷ pos 1 ∷ []) ∷ []) as' h'

@@ -3,7 +3,7 @@ use Rattle.std.proofs.Common.{◌≡◌, ℕ, zero, suc, ◌<◌, ◌≤◌, Boo
 use Rattle.std.specs.List.{AllByRecursion}
 use Rattle.classes.specs.Classes.{Classes, ClassLaws, joined}
 use Rattle.std.proofs.ByRecursion.{All-map}
-use Rattle.classes.proofs.Joins.{above, least}
+use Rattle.classes.proofs.Joins.{first_below, second_below, above, least}
 use Rattle.flat.specs.declared.row.Clock.{Clock}
 use Rattle.flat.specs.declared.row.Clock.TheVariants.{Base, On}
 use Rattle.flat.specs.Programs.{Definition, input, plain, delay, Program, size, row, exp_flows, control_flows, clock_flow, chain, clock_flows, needs_of, sources_of, Ordered}
@@ -15,12 +15,6 @@ module _ {C : Type 0} {m : Classes C} (laws : ClassLaws m) (class : ℕ → C) (
   abbrev Low : ℕ → Type 0
   Low d = T (m.below (class d) t)
 
-  first_part : (x y : C) → T (m.below (m.join x y) t) → T (m.below x t)
-  first_part x y h = laws.transitive x (m.join x y) t (laws.join_first x y) h
-
-  second_part : (x y : C) → T (m.below (m.join x y) t) → T (m.below y t)
-  second_part x y h = laws.transitive y (m.join x y) t (laws.join_second x y) h
-
   pub parts : (ds : List ℕ) → T (m.below (joined m (map class ds)) t) → AllByRecursion Low ds
   parts ds h = map_all (λ c. T (m.below c t)) class ds (above laws (map class ds) t h)
 
@@ -31,12 +25,12 @@ module _ {C : Type 0} {m : Classes C} (laws : ClassLaws m) (class : ℕ → C) (
   required_parts p k input h = parts (clock_flows p k) h
   required_parts p k (plain c) h =
       all_both Low (clock_flows p k) (control_flows c)
-      (parts (clock_flows p k) (first_part (clock_class m p class k) (control_class m class c) h))
-      (parts (control_flows c) (second_part (clock_class m p class k) (control_class m class c) h))
+      (parts (clock_flows p k) (first_below laws (clock_class m p class k) (control_class m class c) t h))
+      (parts (control_flows c) (second_below laws (clock_class m p class k) (control_class m class c) t h))
   required_parts p k (delay v e) h =
       all_both Low (clock_flows p k) (exp_flows e)
-      (parts (clock_flows p k) (first_part (clock_class m p class k) (exp_class m class e) h))
-      (parts (exp_flows e) (second_part (clock_class m p class k) (exp_class m class e) h))
+      (parts (clock_flows p k) (first_below laws (clock_class m p class k) (exp_class m class e) t h))
+      (parts (exp_flows e) (second_below laws (clock_class m p class k) (exp_class m class e) t h))
 
   pub required_whole : (p : Program) (k : Clock) (d : Definition) → AllByRecursion Low (sources_of p k d) → T (m.below (required m p class k d) t)
   required_whole p k input h = whole (clock_flows p k) h

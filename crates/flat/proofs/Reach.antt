@@ -1,6 +1,8 @@
 -- It can be told which main flows reach which flows: by chains through the inner flows below a bound.
 use Rattle.std.proofs.Common.{◌≡◌, ℕ, zero, suc, ◌<◌, ◌≤◌, Bool, true, false, ◌&&◌, ◌||◌, T, eqb, ltb, leb, ◌⊎◌, List, [], ◌∷◌, refl, subst, inl, inr, arith}
-use Rattle.std.proofs.lemmas.Bool.{ltb-true, lt-ltb, leb-true, le-leb, eqb-true, eq-eqb, cases_order}
+use Rattle.std.proofs.Math.Dec.{eqb_refl}
+use Rattle.std.specs.Bool.{passes}
+use Rattle.std.proofs.lemmas.Bool.{ltb-true, lt-ltb, leb-true, le-leb, eqb-true, cases_order}
 use Rattle.flat.specs.Programs.{Program, size, sources}
 use Rattle.flat.specs.Clearing.{In, here, there, Reaches, direct, onward, Marks, Marked}
 
@@ -9,10 +11,6 @@ use Rattle.flat.specs.Clearing.{In, here, there, Reaches, direct, onward, Marks,
 is_true : (t : Bool) → T t → t ≡ true
 is_true true h = refl
 is_true false h = absurd h
-
-passes : (t : Bool) → t ≡ true → T t
-passes true e = tt
-passes false e = absurd (mathlib.Core.Bool.false≢true e)
 
 both : (a b : Bool) → T a → T b → T (a && b)
 both true b h k = k
@@ -55,7 +53,7 @@ member_in x (y ∷ ys) h = by (or_split (eqb x y) (member x ys) h) (member_in x 
 
 in_member : {x : ℕ} {ys : List ℕ} → In x ys → T (member x ys)
 unfolding member
-in_member {x} (here {xs = xs}) = or_first (eqb x x) (member x xs) (passes (eqb x x) (eq-eqb x x refl))
+in_member {x} (here {xs = xs}) = or_first (eqb x x) (member x xs) (eqb_refl x)
 in_member {x} (there {y = y} {xs = xs} i) = or_second (eqb x y) (member x xs) (in_member i)
 
 -- ---- chains

@@ -1,5 +1,6 @@
 -- The value of an expression, where each flow has its answer.
 use Rattle.std.specs.Prelude.{ℕ, Bool, true, false, cond, not, ◌&&◌, ◌||◌, ℤ, pos, Some, None, Option, ◌==◌, nat_le}
+use Rattle.std.specs.Ordering.{int_eq}
 use Rattle.syntax.specs.declared.cell.UnaryOp.{UnaryOp}
 use Rattle.syntax.specs.declared.cell.UnaryOp.TheVariants.{Not, Minus}
 use Rattle.syntax.specs.declared.header.Kind.{Kind}
@@ -7,7 +8,6 @@ use Rattle.syntax.specs.declared.header.Kind.TheVariants as kind
 use Rattle.syntax.specs.declared.header.Constant.{Constant}
 use Rattle.syntax.specs.declared.header.Constant.TheVariants as constant
 use Rattle.numbers.specs.Reckonings.{Reckonings, applied, compared}
-use Rattle.numbers.specs.Integers.{same_z}
 use Rattle.rules.specs.Clocks.{same_side}
 use Rattle.rules.specs.Trees.{Exp, Control, flow, truth, number, unary, binary, when, simple, merge, choose}
 use Rattle.flat.specs.declared.row.Clock.{Clock}
@@ -21,7 +21,7 @@ Answers N = ℕ → Option (Value N)
 
 -- the value of a reading: a truth is true unless the reading is 0
 abbrev pub read_as : {N : Type 0} → Reckonings N → Kind → ℤ → Value N
-read_as r kind.Truth z = Truth (not (same_z z (pos 0)))
+read_as r kind.Truth z = Truth (not (int_eq z (pos 0)))
 read_as r kind.Number z = Number (r.take z)
 
 abbrev pub constant_value : {N : Type 0} → Reckonings N → Constant → Value N

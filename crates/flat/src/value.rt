@@ -1,5 +1,5 @@
 // What a flow has where it is present.
-#[derive(Clone, Copy)]
+#[derive(Clone, Copy, Debug, PartialEq, Eq)]
 pub enum Value<N> {
     Truth(bool),
     Number(N),

@@ -1,28 +1,15 @@
 -- Rows that hold a block stand for it.
-use Rattle.std.proofs.Common.{◌≡◌, ℕ, ◌+◌, ◌≤◌, List, [], ◌∷◌, ◌++◌, map, length, get_or, take, drop, replicate, sym, refl, ap, ◌∙◌, zero-add, arith}
-use lib.ListN.{length-replicate}
-use Rattle.std.proofs.lemmas.List.{get_or-take, length-take-le, drop-drop}
+use Rattle.std.proofs.Common.{◌≡◌, ℕ, ◌+◌, ◌≤◌, List, [], ◌∷◌, ◌++◌, map, length, take, drop, sym, refl, ap, ◌∙◌, arith}
+use Rattle.std.proofs.lemmas.List.{ext_get_or, get_or-take, length-take-le, drop-drop}
 use Rattle.syntax.specs.declared.cell.Cell.{Cell}
 use Rattle.syntax.specs.Syntax.{Expression, FormSyntax, EquationSyntax, NodeSyntax, BlockSyntax, plain, delay, call}
 use Rattle.syntax.specs.Encoder.{joined}
-use Rattle.syntax.specs.Laws.{All, FormFits, EquationFits, NodeFits}
-use Rattle.bits.proofs.Lists.{list_ext}
-use Rattle.bits.proofs.Written.{written_at, length-written}
+use Rattle.std.specs.List.{AllByRecursion}
+use Rattle.syntax.specs.Laws.{FormFits, EquationFits, NodeFits}
 use Rattle.layout.specs.declared.table.Table.{Table}
-use Rattle.layout.specs.Blanks.{blank_cell, blank_flow, blank_clock, blank_span, blank_equation, blank_node}
-use Rattle.layout.specs.Layout.{whole, form_cells, equation_cells, node_cells, block_cells, padded, rows_from, span_row, form_row, equation_row, node_row, expression_in, form_in, equation_in, node_in}
+use Rattle.layout.specs.Blanks.{blank_cell}
+use Rattle.layout.specs.Layout.{whole, form_cells, equation_cells, node_cells, block_cells, rows_from, span_row, form_row, equation_row, node_row, expression_in, form_in, equation_in, node_in}
 use Rattle.layout.specs.Held.{Holds, block_in}
-use Rattle.layout.proofs.Lists.{length_rows}
-
--- the first of padded rows are what was padded
-pub padded_front : {A : Type 0} (n : ℕ) (d : A) (xs : List A) → length xs ≤ n → take (length xs) (padded n d xs) ≡ xs
-padded_front n d xs h =
-    let long : length (padded n d xs) ≡ n = length-written (replicate n d) 0 xs ∙ length-replicate n d in
-    let short : length (take (length xs) (padded n d xs)) ≡ length xs = length-take-le (length xs) (padded n d xs) (omega (arith, long)) in
-    list_ext d (take (length xs) (padded n d xs)) xs short (λ i l.
-    get_or-take (length xs) (padded n d xs) i d (omega (arith, short))
-    ∙ ap (λ j. get_or (padded n d xs) j d) (sym (zero-add i))
-    ∙ written_at (replicate n d) 0 xs i d (omega (arith, short)) (omega (arith, short, length-replicate n d)))
 
 -- the cells stand among all cells from `from` on
 abbrev pub CellsAt : List Cell → ℕ → List Cell → Type 0
@@ -46,27 +33,16 @@ cells_parts all from a b h =
 -- rows of a list whose items come back come back
 pub rows_back : {A B : Type 0} (row : ℕ → A → B) (cells : A → List Cell) (back : B → A) (Good : A → Type 0) (all : List Cell)
     → ((x : A) (from : ℕ) → Good x → CellsAt all from (cells x) → back (row from x) ≡ x)
-    → (from : ℕ) (xs : List A) → All Good xs → CellsAt all from (joined cells xs) → map back (rows_from row cells from xs) ≡ xs
+    → (from : ℕ) (xs : List A) → AllByRecursion Good xs → CellsAt all from (joined cells xs) → map back (rows_from row cells from xs) ≡ xs
 unfolding rows_from joined
 rows_back row cells back Good all one from [] g h = refl
 rows_back row cells back Good all one from (x ∷ xs) g h =
     let p = cells_parts all from (cells x) (joined cells xs) h in
     λ i. one x from g.0 p.0 i ∷ rows_back row cells back Good all one (from + length (cells x)) xs g.1 p.1 i
 
-all_true : {A : Type 0} (xs : List A) → All (λ x. Unit {0}) xs
+all_true : {A : Type 0} (xs : List A) → AllByRecursion (λ x. Unit {0}) xs
 all_true [] = tt
 all_true (x ∷ xs) = (tt, all_true xs)
-
--- padded rows of a list come back
-pub padded_back : {A B : Type 0} (row : ℕ → A → B) (cells : A → List Cell) (back : B → A) (Good : A → Type 0) (all : List Cell)
-    → ((x : A) (from : ℕ) → Good x → CellsAt all from (cells x) → back (row from x) ≡ x)
-    → (n : ℕ) (d : B) (from : ℕ) (xs : List A) → length xs ≤ n → All Good xs → CellsAt all from (joined cells xs)
-    → map back (take (length xs) (padded n d (rows_from row cells from xs))) ≡ xs
-padded_back row cells back Good all one n d from xs h g c =
-    let rows = rows_from row cells from xs in
-    let l = length_rows row cells from xs in
-    ap (map back) (ap (λ k. take k (padded n d rows)) (sym l) ∙ padded_front n d rows (omega (arith, l)))
-    ∙ rows_back row cells back Good all one from xs g c
 
 span_back : (all : List Cell) (e : Expression) (from : ℕ) → Unit {0} → CellsAt all from (whole e) → expression_in all (span_row from e) ≡ e
 span_back all e from u c = c
@@ -74,26 +50,20 @@ span_back all e from u c = c
 form_back : (all : List Cell) (f : FormSyntax) (from : ℕ) → FormFits f → CellsAt all from (form_cells f) → form_in all (form_row from f) ≡ f
 form_back all (plain f e) from g c = ap (plain f) c
 form_back all (delay f v e) from g c = ap (delay f v) c
-form_back all (call n rs es) from g c = λ i.
-    call n
-    (padded_front 8 0 rs g.1.1 i)
-    (padded_back span_row whole (expression_in all) (λ _. Unit {0}) all (span_back all) 8 blank_span from es g.3.1 (all_true es) c i)
+form_back all (call n rs es) from g c = ap (call n rs) (rows_back span_row whole (expression_in all) (λ _. Unit {0}) all (span_back all) from es (all_true es) c)
 
 equation_back : (all : List Cell) (e : EquationSyntax) (from : ℕ) → EquationFits e → CellsAt all from (equation_cells e) → equation_in all (equation_row from e) ≡ e
 equation_back all e from g c = λ i. record { clock = e.clock; form = form_back all e.form from g.1 c i }
 
 node_back : (all : List Cell) (n : NodeSyntax) (from : ℕ) → NodeFits n → CellsAt all from (node_cells n) → node_in all (node_row from n) ≡ n
-node_back all n from g c =
-    let counted : n.inputs + n.outputs + n.locals ≡ length n.flows = sym g.counted in
-    let few : length n.flows ≤ 31 = omega (arith, g.counted, g.inputs, g.outputs, g.locals) in
-    λ i. record {
-      inputs = n.inputs;
-      outputs = n.outputs;
-      locals = n.locals;
-      flows = (ap (λ k. take k (padded 31 blank_flow n.flows)) counted ∙ padded_front 31 blank_flow n.flows few) i;
-      clocks = padded_front 7 blank_clock n.clocks g.few_clocks i;
-      equations = padded_back equation_row equation_cells (equation_in all) EquationFits all (equation_back all) 23 blank_equation from n.equations g.few_equations.1 g.equations c i;
-    }
+node_back all n from g c = λ i. record {
+  inputs = n.inputs;
+  outputs = n.outputs;
+  locals = n.locals;
+  flows = n.flows;
+  clocks = n.clocks;
+  equations = rows_back equation_row equation_cells (equation_in all) EquationFits all (equation_back all) from n.equations g.equations c i;
+}
 
 -- the cells that rows hold are those of the block
 held_cells : (t : Table) (b : BlockSyntax) → Holds t b → CellsAt t.store.cells.now 0 (block_cells b)
@@ -102,10 +72,10 @@ held_cells t b h =
     let all = t.store.cells.now in
     let long : length cs ≤ length all = omega (arith, h.used, h.room) in
     let short : length (take (length cs) all) ≡ length cs = length-take-le (length cs) all long in
-    list_ext blank_cell (take (length cs) all) cs short (λ i l. get_or-take (length cs) all i blank_cell (omega (arith, short)) ∙ h.cells i)
+    ext_get_or blank_cell (take (length cs) all) cs short (λ i l. get_or-take (length cs) all i blank_cell (omega (arith, short)) ∙ h.cells i)
 
-pub holds_block : (t : Table) (b : BlockSyntax) → length b ≤ 8 → All NodeFits b → Holds t b → block_in t ≡ b
+pub holds_block : (t : Table) (b : BlockSyntax) → AllByRecursion NodeFits b → Holds t b → block_in t ≡ b
 unfolding block_in
-holds_block t b few g h =
-    (λ i. map (node_in t.store.cells.now) (take (h.count i) (h.nodes i)))
-    ∙ padded_back node_row node_cells (node_in t.store.cells.now) NodeFits t.store.cells.now (node_back t.store.cells.now) 8 blank_node 0 b few g (held_cells t b h)
+holds_block t b g h =
+    ap (map (node_in t.store.cells.now)) h.nodes
+    ∙ rows_back node_row node_cells (node_in t.store.cells.now) NodeFits t.store.cells.now (node_back t.store.cells.now) 0 b g (held_cells t b h)

@@ -1,5 +1,5 @@
 -- What the rows hold: a block, or nothing.
-use Rattle.std.specs.Prelude.{◌≡◌, ℕ, ◌-◌, ◌≤◌, Bool, true, false, cond, List, [], ◌∷◌, ◌++◌, map, length, take, drop, replicate, is_ok, Ok, Err, Result, ◌==◌, nat_le, slice_index_or}
+use Rattle.std.specs.Prelude.{◌≡◌, ℕ, ◌-◌, ◌≤◌, Bool, true, false, cond, List, [], ◌∷◌, ◌++◌, map, length, drop, replicate, is_ok, Ok, Err, Result, ◌==◌, nat_le, slice_index_or}
 use Rattle.syntax.specs.declared.cell.Cell.{Cell}
 use Rattle.syntax.specs.declared.cell.Cell.TheVariants.{Flow, Truth, Number, Unary, Binary, When, Merge, If}
 use Rattle.syntax.specs.declared.fault.ReadFault.{ReadFault}
@@ -9,20 +9,19 @@ use Rattle.syntax.specs.Syntax.{BlockSyntax}
 use Rattle.syntax.specs.Decoder.{decode}
 use Rattle.syntax.specs.Encoder.{encode}
 use Rattle.layout.specs.declared.table.Table.{Table}
-use Rattle.layout.specs.Blanks.{blank_cell, blank_node}
-use Rattle.layout.specs.Layout.{padded, rows_from, node_row, node_cells, node_in, block_cells}
+use Rattle.layout.specs.Blanks.{blank_cell}
+use Rattle.layout.specs.Layout.{rows_from, node_row, node_cells, node_in, block_cells}
 
--- the rows hold just this block: its nodes and its cells, and blanks after them
+-- the rows hold just this block: its nodes and its cells, and blanks after these
 pub record Holds (t : Table) (b : BlockSyntax) : Type 0 where
-  pub count : t.count ≡ length b
-  pub nodes : t.nodes ≡ padded 8 blank_node (rows_from node_row node_cells 0 b)
+  pub nodes : t.nodes.items ≡ rows_from node_row node_cells 0 b
   pub used : t.store.used ≡ length (block_cells b)
   pub cells : (i : ℕ) → slice_index_or t.store.cells.now i blank_cell ≡ slice_index_or (block_cells b) i blank_cell
   pub room : t.store.used ≤ length t.store.cells.now
 
 -- the block that rows stand for
 unfoldable pub block_in : Table → BlockSyntax
-block_in t = map (node_in t.store.cells.now) (take t.count t.nodes)
+block_in t = map (node_in t.store.cells.now) t.nodes.items
 
 -- rows are blank, or what they stand for can be read again
 abbrev pub readable : BlockSyntax → Bool

@@ -1,18 +1,14 @@
 -- The rows that hold a block, and the block that rows stand for.
-use Rattle.std.specs.Prelude.{ℕ, ◌+◌, List, [], ◌∷◌, map, length, take, drop, replicate}
+use Rattle.std.specs.Prelude.{ℕ, ◌+◌, List, [], ◌∷◌, map, length, take, drop}
+use Rattle.arrayvec.specs.ArrayVec.{ArrayVec}
 use Rattle.syntax.specs.declared.cell.Cell.{Cell}
 use Rattle.syntax.specs.Syntax.{Expression, FormSyntax, EquationSyntax, NodeSyntax, BlockSyntax, plain, delay, call}
 use Rattle.syntax.specs.Encoder.{joined}
-use Rattle.bits.specs.Overwriting.{written}
 use Rattle.layout.specs.declared.node.Span.{Span}
-use Rattle.layout.specs.declared.node.Results.{Results}
-use Rattle.layout.specs.declared.node.Arguments.{Arguments}
 use Rattle.layout.specs.declared.node.Form.{Form}
 use Rattle.layout.specs.declared.node.Form.TheVariants.{Plain, Delay, Call}
 use Rattle.layout.specs.declared.node.Equation.{Equation}
-use Rattle.layout.specs.declared.node.Equations.{Equations}
 use Rattle.layout.specs.declared.node.Node.{Node}
-use Rattle.layout.specs.Blanks.{blank_flow, blank_clock, blank_span, blank_equation}
 
 -- the cells of a form, an equation, a node and a block, in the order in which they are read
 abbrev pub whole : Expression → List Cell
@@ -38,10 +34,6 @@ node_cells n = equations_cells n.equations
 abbrev pub block_cells : BlockSyntax → List Cell
 block_cells b = joined node_cells b
 
--- n blanks with xs over the first of them
-abbrev pub padded : {A : Type 0} → ℕ → A → List A → List A
-padded n d xs = written (replicate n d) 0 xs
-
 -- the rows of xs, whose cells stand one after another from `from` on
 unfoldable pub rows_from : {A B : Type 0} → (ℕ → A → B) → (A → List Cell) → ℕ → List A → List B
 rows_from row cells from [] = []
@@ -51,11 +43,11 @@ rows_from row cells from (x ∷ xs) = row from x ∷ rows_from row cells (from +
 abbrev pub span_row : ℕ → Expression → Span
 span_row from e = record { from = from; len = length e }
 
-abbrev pub results_row : List ℕ → Results
-results_row rs = record { count = length rs; flows = padded 8 0 rs }
+abbrev pub results_row : List ℕ → ArrayVec ℕ
+results_row rs = record { items = rs }
 
-abbrev pub arguments_row : ℕ → List Expression → Arguments
-arguments_row from es = record { count = length es; spans = padded 8 blank_span (rows_from span_row whole from es) }
+abbrev pub arguments_row : ℕ → List Expression → ArrayVec Span
+arguments_row from es = record { items = rows_from span_row whole from es }
 
 abbrev pub form_row : ℕ → FormSyntax → Form
 form_row from (plain f e) = Plain f (span_row from e)
@@ -65,16 +57,16 @@ form_row from (call n rs es) = Call n (results_row rs) (arguments_row from es)
 abbrev pub equation_row : ℕ → EquationSyntax → Equation
 equation_row from e = record { clock = e.clock; form = form_row from e.form }
 
-abbrev pub equations_row : ℕ → List EquationSyntax → Equations
-equations_row from es = record { count = length es; rows = padded 23 blank_equation (rows_from equation_row equation_cells from es) }
+abbrev pub equations_row : ℕ → List EquationSyntax → ArrayVec Equation
+equations_row from es = record { items = rows_from equation_row equation_cells from es }
 
 abbrev pub node_row : ℕ → NodeSyntax → Node
 node_row from n = record {
   inputs = n.inputs;
   outputs = n.outputs;
   locals = n.locals;
-  flows = padded 31 blank_flow n.flows;
-  clocks = record { count = length n.clocks; rows = padded 7 blank_clock n.clocks };
+  flows = record { items = n.flows };
+  clocks = record { items = n.clocks };
   equations = equations_row from n.equations;
 }
 
@@ -82,11 +74,11 @@ node_row from n = record {
 abbrev pub expression_in : List Cell → Span → Expression
 expression_in cells s = take s.len (drop s.from cells)
 
-abbrev pub results_in : Results → List ℕ
-results_in rs = take rs.count rs.flows
+abbrev pub results_in : ArrayVec ℕ → List ℕ
+results_in rs = rs.items
 
-abbrev pub arguments_in : List Cell → Arguments → List Expression
-arguments_in cells es = map (expression_in cells) (take es.count es.spans)
+abbrev pub arguments_in : List Cell → ArrayVec Span → List Expression
+arguments_in cells es = map (expression_in cells) es.items
 
 abbrev pub form_in : List Cell → Form → FormSyntax
 form_in cells (Plain f s) = plain f (expression_in cells s)
@@ -96,15 +88,15 @@ form_in cells (Call n rs es) = call n (results_in rs) (arguments_in cells es)
 abbrev pub equation_in : List Cell → Equation → EquationSyntax
 equation_in cells e = record { clock = e.clock; form = form_in cells e.form }
 
-abbrev pub equations_in : List Cell → Equations → List EquationSyntax
-equations_in cells es = map (equation_in cells) (take es.count es.rows)
+abbrev pub equations_in : List Cell → ArrayVec Equation → List EquationSyntax
+equations_in cells es = map (equation_in cells) es.items
 
 abbrev pub node_in : List Cell → Node → NodeSyntax
 node_in cells n = record {
   inputs = n.inputs;
   outputs = n.outputs;
   locals = n.locals;
-  flows = take (n.inputs + n.outputs + n.locals) n.flows;
-  clocks = take n.clocks.count n.clocks.rows;
+  flows = n.flows.items;
+  clocks = n.clocks.items;
   equations = equations_in cells n.equations;
 }

@@ -1,29 +1,23 @@
-use syntax::header::{Constant, DerivedClock, Flow, Kind};
+use arrayvec::ArrayVec;
+use syntax::header::{Constant, DerivedClock, Flow};
 
-// The cells of an expression: where they begin among the cells of the block, and how many they are.
-#[derive(Clone, Copy)]
+// The cells of an expression: where they begin among the cells of the block, and how many they are. They are places and
+// no slice, since the cells lie in the same rows and move with them.
+#[derive(Clone, Copy, Debug, Default, PartialEq, Eq)]
 pub struct Span {
     pub from: u16,
     pub len: u8,
 }
 
-pub const BLANK_SPAN: Span = Span { from: 0, len: 0 };
-
 // The flows that a call defines, in the order of the callee's outputs.
-#[derive(Clone, Copy)]
-pub struct Results {
-    pub count: u8,
-    pub flows: [u8; 8],
-}
+pub type Results = ArrayVec<u8, 8>;
 
 // The expressions that a call passes, in the order of the callee's inputs.
-#[derive(Clone, Copy)]
-pub struct Arguments {
-    pub count: u8,
-    pub spans: [Span; 8],
-}
+pub type Arguments = ArrayVec<Span, 8>;
 
-#[derive(Clone, Copy)]
+// What an equation says: a flow is an expression; a flow is a first value and then, a beat late, an expression; or
+// results are what a node makes of arguments.
+#[derive(Debug, Drop, PartialEq, Eq)]
 pub enum Form {
     Plain {
         flow: u8,
@@ -41,66 +35,29 @@ pub enum Form {
     },
 }
 
-#[derive(Clone, Copy)]
+impl Default for Form {
+    fn default() -> Form {
+        Form::Plain {
+            flow: 0,
+            cells: Span::default(),
+        }
+    }
+}
+
+#[derive(Debug, Default, Drop, PartialEq, Eq)]
 pub struct Equation {
     pub clock: u8,
     pub form: Form,
 }
 
-// The derived clocks of a node, numbered from 1.
-#[derive(Clone, Copy)]
-pub struct Clocks {
-    pub count: u8,
-    pub rows: [DerivedClock; 7],
-}
-
-#[derive(Clone, Copy)]
-pub struct Equations {
-    pub count: u8,
-    pub rows: [Equation; 23],
-}
-
-// A node: its flows are its inputs, then its outputs, then its locals.
-#[derive(Clone, Copy)]
+// A node: its flows are its inputs, then its outputs, then its locals; its derived clocks are numbered from 1. The three
+// counts stand beside the flows, since the format has them and flows alone do not say where one group ends.
+#[derive(Debug, Default, Drop, PartialEq, Eq)]
 pub struct Node {
     pub inputs: u8,
     pub outputs: u8,
     pub locals: u8,
-    pub flows: [Flow; 31],
-    pub clocks: Clocks,
-    pub equations: Equations,
+    pub flows: ArrayVec<Flow, 31>,
+    pub clocks: ArrayVec<DerivedClock, 7>,
+    pub equations: ArrayVec<Equation, 23>,
 }
-
-pub const BLANK_FLOW: Flow = Flow {
-    kind: Kind::Truth,
-    clock: 0,
-};
-
-pub const BLANK_CLOCK: DerivedClock = DerivedClock {
-    parent: 0,
-    flow: 0,
-    side: false,
-};
-
-pub const BLANK_EQUATION: Equation = Equation {
-    clock: 0,
-    form: Form::Plain {
-        flow: 0,
-        cells: BLANK_SPAN,
-    },
-};
-
-pub const BLANK_NODE: Node = Node {
-    inputs: 0,
-    outputs: 0,
-    locals: 0,
-    flows: [BLANK_FLOW; 31],
-    clocks: Clocks {
-        count: 0,
-        rows: [BLANK_CLOCK; 7],
-    },
-    equations: Equations {
-        count: 0,
-        rows: [BLANK_EQUATION; 23],
-    },
-};

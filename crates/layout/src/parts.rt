@@ -8,15 +8,7 @@ use syntax::cell::Cell;
 pub fn front<T>(rows: &[T], n: usize) -> &[T]
     ensures { result.now ≡ take n rows.now }
 {
-    if n < rows.len() { &rows[0..n] } else { rows }
-}
-
-// The same by a count as rows keep it.
-pub fn counted<T>(rows: &[T], count: u8) -> &[T]
-    ensures part { result.now ≡ take count rows.now }
-    ensures few { length result.now ≤ 255 }
-{
-    front(rows, usize::from(count))
+    &rows[..n.min(rows.len())]
 }
 
 // The cells of an expression.
@@ -25,5 +17,5 @@ pub fn expression(cells: &[Cell], span: Span) -> &[Cell]
     ensures few { length result.now ≤ 255 }
 {
     let from = usize::from(span.from).min(cells.len());
-    counted(&cells[from..], span.len)
+    front(&cells[from..], usize::from(span.len))
 }

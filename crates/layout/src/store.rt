@@ -1,9 +1,10 @@
-ghost use Rattle.std.specs.Prelude.{◌≡◌, ℕ, ◌<◌, ◌≤◌, length, slice_index_or};
+ghost use Rattle.std.specs.Prelude.{◌≡◌, ℕ, ◌+◌, ◌<◌, ◌≤◌, length, slice_set, slice_index_or};
 ghost use Rattle.layout.specs.Blanks.{blank_cell};
 
 use syntax::cell::Cell;
 
-// The lent cells, of which the first `used` hold what was read.
+// The lent cells, of which the first `used` hold what was read: a length beside a slice and no vector, since the
+// memory is the host's and no call allocates.
 #[derive(Drop)]
 pub struct CellStore<'m> {
     pub cells: &'m mut [Cell],
@@ -20,9 +21,19 @@ impl CellStore<'_> {
         ensures long { length self.new.cells.now ≡ length self.old.cells.now }
         ensures used { self.new.used ≡ 0 }
     {
-        let n = usize::from(self.used);
-        blank_first(self.cells, n);
+        blank_first(self.cells, usize::from(self.used));
         self.used = 0;
+    }
+
+    // One cell more.
+    pub fn push(&mut self, cell: Cell)
+        requires inside { self.old.used < length self.old.cells.now }
+        requires few { self.old.used < 4096 }
+        ensures cells { self.new.cells.now ≡ slice_set self.old.cells.now self.old.used cell }
+        ensures used { self.new.used ≡ self.old.used + 1 }
+    {
+        self.cells[usize::from(self.used)] = cell;
+        self.used += 1;
     }
 }
 
@@ -31,7 +42,6 @@ fn blank_first(cells: &mut [Cell], n: usize)
     ensures first { (i : ℕ) → i < n → slice_index_or cells.new i blank_cell ≡ blank_cell }
     ensures past { (i : ℕ) → n ≤ i → slice_index_or cells.new i blank_cell ≡ slice_index_or cells.old i blank_cell }
 {
-    for i in 0..n.min(cells.len()) {
-        cells[i] = BLANK_CELL;
-    }
+    let end = n.min(cells.len());
+    cells[..end].fill(BLANK_CELL);
 }

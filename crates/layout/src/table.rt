@@ -1,10 +1,10 @@
 use crate::node::Node;
 use crate::store::CellStore;
+use arrayvec::ArrayVec;
 
-// The rows of a block: its first `count` nodes, and the cells of their expressions.
+// The rows of a block: its nodes, and the cells of their expressions.
 #[derive(Drop)]
 pub struct Table<'m> {
-    pub count: u8,
-    pub nodes: [Node; 8],
+    pub nodes: ArrayVec<Node, 8>,
     pub store: CellStore<'m>,
 }

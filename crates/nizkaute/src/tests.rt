@@ -1,12 +1,13 @@
 // What the run of a whole script does not show: lines that are no call, after which it ends with
-// status 1, and settings.
+// status 1, outcomes that it has none of, and settings.
 use script::command::{Command, Numbers, System};
-use script::outcome::wrong_line;
+use script::outcome::{outcome, refusal, wrong_line};
 use script::parse::parse;
 use script::settings::START;
 use std::alloc::Global;
 use std::process::Abort;
 use std::test::Fail;
+use syntax::fault::{ReadFault, WriteFault};
 
 const WRONG: &str = "foo => line 7: unknown call
 READ - => line 7: unknown call
@@ -51,6 +52,21 @@ fn wrong_lines_to_examine(rt: HostRuntime) -> Result<(), Fail> {
 }
 
 #[test]
+fn outcomes_are_told(rt: HostRuntime) -> Result<(), Fail> {
+    let heap = rt.alloc();
+    let refused: Result<(), ReadFault> = Err(ReadFault::Filling { bit: 66 });
+    assert_eq!(rt;
+        outcome(heap, "clear", refused)?.as_str(),
+        "clear refused 5 reading 66 0"
+    );
+    let done: Result<(), ReadFault> = Ok(());
+    assert_eq!(rt; outcome(heap, "clear", done)?.as_str(), "clear done");
+    let refusal = refusal(heap, "write", WriteFault::TooShort)?;
+    assert_eq!(rt; refusal.as_str(), "write refused 18 running 0 0");
+    Ok(())
+}
+
+#[test]
 fn settings_are_kept(rt: HostRuntime) -> Result<(), Fail> {
     let heap = rt.alloc();
     let mut settings = START;
@@ -61,16 +77,12 @@ fn settings_are_kept(rt: HostRuntime) -> Result<(), Fail> {
         };
         settings = settings.with(setting);
     }
-    assert!(rt;
-        matches!(
-            settings.system,
-            System::RanksAndRanks {
-                first: 3,
-                second: 255
-            }
-        )
-    );
-    assert!(rt; matches!(settings.numbers, Numbers::Hundredths));
+    let system = System::RanksAndRanks {
+        first: 3,
+        second: 255,
+    };
+    assert_eq!(rt; settings.system, system);
+    assert_eq!(rt; settings.numbers, Numbers::Hundredths);
     assert_eq!(rt; settings.tables.cells, 1);
     assert_eq!(rt; settings.tables.stack, 7);
     Ok(())

@@ -1,4 +1,3 @@
 pub mod Quotients
 pub mod Wrapping
 pub mod Holding
-pub mod Sameness

@@ -1,8 +1,12 @@
 -- What wrapping, holding at the ends and dividing come to.
-use Rattle.std.specs.Prelude.{◌≡◌, ◌+◌, ◌*◌, ◌%◌, ◌^◌, ◌<◌, ◌≤◌, ℤ, pos, negsuc, ◌-ℤ◌, ◌*ℤ◌, ◌≤ℤ◌, Decides, unsigned_abs}
-use Rattle.numbers.specs.Integers.{Within, same_z, toward_zero}
+use Rattle.std.specs.Prelude.{◌≡◌, ◌+◌, ◌*◌, ◌%◌, ◌^◌, ◌<◌, ◌≤◌, ℤ, pos, negsuc, ◌-ℤ◌, ◌*ℤ◌, ◌≤ℤ◌, Decides, int_div, unsigned_abs}
+use Rattle.std.specs.Ordering.{int_eq}
 use Rattle.numbers.specs.Points.{wrap}
 use Rattle.numbers.specs.Hundredths.{lowest, highest, held}
+
+-- z is a number from low to high
+abbrev pub Within : ℤ → ℤ → ℤ → Type 0
+Within low high z = (low ≤ℤ z) × (z ≤ℤ high)
 
 -- a number of 32 bits
 abbrev pub Point : ℤ → Type 0
@@ -29,7 +33,7 @@ pub record NumberLaws : Type 0 where
   pub held_high : (z : ℤ) → highest ≤ℤ z → held z ≡ highest
   pub held_nearest : (z y : ℤ) → Count y → unsigned_abs (z -ℤ held z) ≤ unsigned_abs (z -ℤ y)
   pub quotient_size : (a b : ℤ) → 0 < unsigned_abs b →
-      (unsigned_abs b * unsigned_abs (toward_zero a b) ≤ unsigned_abs a) × (unsigned_abs a < unsigned_abs b * (unsigned_abs (toward_zero a b) + 1))
-  pub quotient_sign : (a b : ℤ) → pos 0 ≤ℤ (toward_zero a b *ℤ (a *ℤ b))
-  pub quotient_by_zero : (a : ℤ) → toward_zero a (pos 0) ≡ pos 0
-  pub same_decides : (a b : ℤ) → Decides (same_z a b) (a ≡ b)
+      (unsigned_abs b * unsigned_abs (int_div a b) ≤ unsigned_abs a) × (unsigned_abs a < unsigned_abs b * (unsigned_abs (int_div a b) + 1))
+  pub quotient_sign : (a b : ℤ) → pos 0 ≤ℤ (int_div a b *ℤ (a *ℤ b))
+  pub quotient_by_zero : (a : ℤ) → int_div a (pos 0) ≡ pos 0
+  pub same_decides : (a b : ℤ) → Decides (int_eq a b) (a ≡ b)

@@ -1,5 +1,4 @@
 pub mod Reckonings
-pub mod Integers
 pub mod Points
 pub mod Hundredths
 pub mod Laws

@@ -1,6 +1,5 @@
-ghost use Rattle.std.specs.Prelude.{◌≡◌, ◌*ℤ◌};
+ghost use Rattle.std.specs.Prelude.{◌≡◌, ◌*ℤ◌, int_div};
 ghost use Rattle.numbers.specs.Hundredths.{held, hundredths};
-ghost use Rattle.numbers.specs.Integers.{toward_zero};
 
 use crate::reckoning::Reckoning;
 
@@ -17,23 +16,15 @@ pub struct Hundredths;
 fn hold(count: i64) -> i32
     ensures { result ≡ held count }
 {
-    if count < LOW {
-        LOW as i32
-    } else if HIGH < count {
-        HIGH as i32
-    } else {
-        count as i32
-    }
+    count.clamp(LOW, HIGH) as i32
 }
 
 // a times b, divided by `by` toward zero and then held. At 64 bits the product does not overflow.
 fn scale(a: i32, b: i32, by: i32) -> i32
-    ensures { result ≡ held (toward_zero (a *ℤ b) by) }
+    ensures { result ≡ held (int_div (a *ℤ b) by) }
 {
-    if by == 0 {
-        return 0;
-    }
-    hold(i64::from(a) * i64::from(b) / i64::from(by))
+    let product = i64::from(a) * i64::from(b);
+    product.checked_div(i64::from(by)).map_or(0, hold)
 }
 
 impl Reckoning for Hundredths {

@@ -3,7 +3,8 @@ ghost use Rattle.numbers.specs.Reckonings.{applied, compared};
 
 use crate::reckoning::Reckoning;
 
-// What a binary operator's code makes of two numbers, where it makes a number.
+// What a binary operator's code makes of two numbers, where it makes a number. A rule of the project has binary
+// operators go by their codes, in a match over these.
 pub fn apply<R: Reckoning>(r: &R, op: u8, a: R::Num, b: R::Num) -> Option<R::Num>
     ensures { result ≡ applied (R.Reckoning.meaning r.now) op a b }
 {
@@ -16,7 +17,7 @@ pub fn apply<R: Reckoning>(r: &R, op: u8, a: R::Num, b: R::Num) -> Option<R::Num
     }
 }
 
-// What a binary operator's code makes of two numbers, where it makes a truth.
+// What a binary operator's code makes of two numbers, where it makes a truth; by its code too.
 pub fn compare<R: Reckoning>(r: &R, op: u8, a: R::Num, b: R::Num) -> Option<bool>
     ensures { result ≡ compared (R.Reckoning.meaning r.now) op a b }
 {

@@ -6,6 +6,7 @@ use crate::reckoning::Reckoning;
 #[derive(Clone, Copy)]
 pub struct WholePoints;
 
+#[tactic(auto, using(std::proofs::lemmas::Int::wraps))]
 impl Reckoning for WholePoints {
     type Num = i32;
 
@@ -32,6 +33,7 @@ impl Reckoning for WholePoints {
     }
 
     fn quotient(&self, a: i32, b: i32) -> i32 {
+        // `checked_div` would also leave out the smallest number by -1.
         if b == 0 { 0 } else { a.wrapping_div(b) }
     }
 

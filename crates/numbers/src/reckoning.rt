@@ -29,7 +29,8 @@ pub trait Reckoning {
     fn quotient(&self, a: Self::Num, b: Self::Num) -> Self::Num
         ensures { result ≡ (meaning self.now).quotient a b };
 
-    // Whether a is strictly smaller than b.
+    // Whether a is strictly smaller than b. A default for this, `same` and `show` would save the two reckonings here one
+    // line each, and ask `Ord` and `Into<i64>` of every `Num`.
     fn below(&self, a: Self::Num, b: Self::Num) -> bool
         ensures { result ≡ (meaning self.now).below a b };
 

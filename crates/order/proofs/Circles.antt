@@ -1,14 +1,9 @@
 -- Where everything waits there is a chain round.
-use Rattle.std.proofs.Common.{◌≡◌, ℕ, zero, suc, ◌<◌, Bool, true, false, T, sym, refl, ap, ◌∙◌, subst, arith}
+use Rattle.std.proofs.Common.{◌≡◌, ℕ, zero, suc, ◌<◌, Bool, true, false, sym, refl, ap, ◌∙◌, subst, arith}
 use native.Mathlib.Decide.{ℕ_discrete}
+use Rattle.std.proofs.lemmas.Bool.{both_ways}
 use Rattle.rules.specs.Definitions.{ByChain}
 use Rattle.rules.specs.Definitions.ByChain.{step, onward}
-
-pub is_T : {b : Bool} → b ≡ true → T b
-is_T e = subst T (sym e) tt
-
-pub not_both : {b : Bool} → b ≡ false → T b → ⊥
-not_both e t = subst T e t
 
 chain_join : {R : ℕ → ℕ → Type 0} {x y z : ℕ} → ByChain R x y → ByChain R y z → ByChain R x z
 chain_join (step r) d = onward r d
@@ -48,12 +43,12 @@ module _ (R : ℕ → ℕ → Type 0) (u : ℕ → Bool) where
 
   -- the last thing is none of them
   without : (n : ℕ) → u n ≡ true → (z : ℕ) → Next (suc n) z → Next n z
-  without n p z (w, k, f, d) = (w, narrow n w k (λ q. not_both (sym (ap u q) ∙ f) (is_T p)), f, d)
+  without n p z (w, k, f, d) = (w, narrow n w k (λ q. both_ways (u n) (sym (ap u q) ∙ f) p), f, d)
 
   circle_step : (n : ℕ) → Circle n → (b : Bool) → u n ≡ b → Circle (suc n)
   circle_step n rec false p x h e all = from_last n rec all (all n (omega arith) p)
   circle_step n rec true p x h e all =
-      rec x (narrow n x h (λ q. not_both (sym (ap u q) ∙ e) (is_T p))) e (λ z hz ez. without n p z (all z (omega arith) ez))
+      rec x (narrow n x h (λ q. both_ways (u n) (sym (ap u q) ∙ e) p)) e (λ z hz ez. without n p z (all z (omega arith) ez))
 
   pub circle : (n : ℕ) → Circle n
   circle zero x h e all = absurd (omega arith)

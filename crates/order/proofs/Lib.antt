@@ -1,5 +1,4 @@
 pub mod Somes
-pub mod ClockChains
 pub mod Waitings
 pub mod Tables
 pub mod Circles

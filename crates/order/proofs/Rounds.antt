@@ -1,18 +1,33 @@
 -- Chains of equations and of flows, and what a settled table says of both.
-use Rattle.std.proofs.Common.{◌≡◌, ℕ, ◌<◌, ◌≤◌, Bool, T, List, length, get_or, take, sym, ◌∙◌, subst, arith}
-use Rattle.std.proofs.lemmas.List.{length-take-le, get_or-take}
+use Rattle.std.proofs.Common.{◌≡◌, ℕ, ◌<◌, Bool, T, true, List, length, map, sym, refl, false, ◌∙◌, arith}
+use Rattle.std.proofs.lemmas.List.{length-map}
+use Rattle.std.proofs.lemmas.Float.{T_from_true}
 use Rattle.syntax.specs.Syntax.{NodeSyntax}
 use Rattle.rules.specs.Every.{has}
 use Rattle.rules.specs.Names.{defined_by, equation_at}
 use Rattle.rules.specs.Definitions.{needs, RestsOn, ByChain, NoCycle, Ordered}
 use Rattle.rules.specs.Definitions.ByChain.{step, onward}
-use Rattle.order.specs.Picking.{Waits, Tells, Sorted}
-use Rattle.order.proofs.Somes.{some_finds, some-has}
+use Rattle.order.specs.Waiting.{waits_on}
+use Rattle.order.specs.Table.{wait_rows}
+use Rattle.order.specs.Picking.{Waits, Sorted}
+use Rattle.order.proofs.Somes.{any_finds, any-has}
+use Rattle.order.proofs.Tables.{marked-wait_rows}
 use Rattle.order.proofs.Picks.{sorted_no_chain}
 
-module _ (n : NodeSyntax) (t : List Bool) (tells : Tells n t) where
+true_from_T : (b : Bool) → T b → b ≡ true
+true_from_T true t = refl
+true_from_T false t = absurd t
+
+module _ (n : NodeSyntax) where
   abbrev Wait : ℕ → ℕ → Type 0
-  Wait = Waits t (length n.equations)
+  Wait = Waits (wait_rows n)
+
+  -- the table has a row for each equation
+  many : length (wait_rows n) ≡ length n.equations
+  many = length-map n.equations (λ e. map (waits_on n e) n.equations)
+
+  inside : (e : ℕ) → e < length (wait_rows n) → e < length n.equations
+  inside e l = omega (arith, many)
 
   abbrev Defines : ℕ → ℕ → Type 0
   Defines e x = T (has x (defined_by (equation_at n e).form))
@@ -22,11 +37,18 @@ module _ (n : NodeSyntax) (t : List Bool) (tells : Tells n t) where
 
   -- an equation that waits on another needs a flow that this defines
   by_flow : (e d : ℕ) → Wait e d → (x : ℕ) × Needs e x × Defines d x
-  by_flow e d w = some_finds (λ y. has y (defined_by (equation_at n d).form)) (needs n (equation_at n e)) (subst T (tells e w.0 d w.1) w.2)
+  by_flow e d w =
+      let f = any_finds (λ y. has y (defined_by (equation_at n d).form)) (needs n (equation_at n e))
+      (sym (marked-wait_rows n e d (inside e w.0) (inside d w.1)) ∙ w.2) in
+      (f.0, T_from_true _ f.1, T_from_true _ f.2)
 
   waits : (e d x : ℕ) → e < length n.equations → d < length n.equations → Needs e x → Defines d x → Wait e d
-  waits e d x le ld a b =
-      (le, ld, subst T (sym (tells e le d ld)) (some-has (λ y. has y (defined_by (equation_at n d).form)) x (needs n (equation_at n e)) a b))
+  waits e d x le ld a b = (
+    omega (arith, many),
+    omega (arith, many),
+    marked-wait_rows n e d le ld
+        ∙ any-has (λ y. has y (defined_by (equation_at n d).form)) x (needs n (equation_at n e)) (true_from_T _ a) (true_from_T _ b),
+  )
 
   -- a chain of equations is one of flows, which ends with the flow by which its last equation is reached
 
@@ -41,9 +63,9 @@ module _ (n : NodeSyntax) (t : List Bool) (tells : Tells n t) where
 
   flows_along : {e d : ℕ} (c : ByChain Wait e d) (x : ℕ) → Defines e x → ByChain (RestsOn n) x (last c)
   unfolding last
-  flows_along (step {x = e} {y = d} w) x h = step (e, w.0, h, (by_flow e d w).1)
+  flows_along (step {x = e} {y = d} w) x h = step (e, inside e w.0, h, (by_flow e d w).1)
   flows_along (onward {x = e} {y = d} w c) x h =
-      let f = by_flow e d w in onward (e, w.0, h, f.1) (flows_along c f.0 f.2)
+      let f = by_flow e d w in onward (e, inside e w.0, h, f.1) (flows_along c f.0 f.2)
 
   pub flow_round : (e : ℕ) → ByChain Wait e e → (x : ℕ) × ByChain (RestsOn n) x x
   flow_round e c = (last c, flows_along c (last c) (last_defined c))
@@ -63,34 +85,15 @@ module _ (n : NodeSyntax) (t : List Bool) (tells : Tells n t) where
   equation_round : (x : ℕ) → ByChain (RestsOn n) x x → (e : ℕ) × ByChain Wait e e
   equation_round x c = let f = first c in (f.0, equations_along c f.0 f.1 f.2)
 
-  module _ (places : List ℕ) (sorted : Sorted t (length n.equations) places) where
+  module _ (order : List ℕ) (sorted : Sorted (wait_rows n) order) where
     pub sorted_no_cycle : NoCycle n
-    sorted_no_cycle x c = let r = equation_round x c in sorted_no_chain t (length n.equations) places sorted r.0 r.1
+    sorted_no_cycle x c = let r = equation_round x c in sorted_no_chain (wait_rows n) order sorted r.0 r.1
 
-    pub sorted_order : length n.equations ≤ length places → Ordered n (take (length n.equations) places)
-    sorted_order room = record {
-      all = many;
-      inside = λ i l. subst (λ e. e < count) (sym (at i (few i l))) (sorted.inside i (few i l));
-      apart = λ i j l m e. sorted.apart i j l (few j m) (sym (at i (omega (arith, few j m))) ∙ e ∙ at j (few j m));
-      covers = λ e l. let f = sorted.covers e l in (f.0, subst (λ k. f.0 < k) (sym many) f.1, at f.0 f.1 ∙ f.2);
-      after = after';
+    pub sorted_order : Ordered n order
+    sorted_order = record {
+      all = sorted.all ∙ many;
+      inside = λ i l. inside _ (sorted.inside i l);
+      apart = sorted.apart;
+      covers = λ e l. sorted.covers e (omega (arith, many));
+      after = λ i l d y ld a b. sorted.after i l d (waits _ d y (inside _ (sorted.inside i l)) ld a b);
     }
-      where
-        count : ℕ
-        count = length n.equations
-
-        many : length (take count places) ≡ count
-        many = length-take-le count places room
-
-        few : (i : ℕ) → i < length (take count places) → i < count
-        few i l = subst (λ k. i < k) many l
-
-        at : (i : ℕ) → i < count → get_or (take count places) i 0 ≡ get_or places i 0
-        at i l = get_or-take count places i 0 l
-
-        after' : (i : ℕ) → i < length (take count places) → (d y : ℕ) → d < count → Needs (get_or (take count places) i 0) y → Defines d y → (j : ℕ) × (j < i) × (get_or (take count places) j 0 ≡ d)
-        after' i l d y ld a b =
-            let h = few i l in
-            let e = at i h in
-            let f = sorted.after i h d (waits (get_or places i 0) d y (sorted.inside i h) ld (subst (λ v. Needs v y) e a) b) in
-            (f.0, f.1, at f.0 (omega (arith, h, f.1)) ∙ f.2)

@@ -1,3 +1,4 @@
 pub mod Waiting
+pub mod Table
 pub mod Picking
 pub mod Answers

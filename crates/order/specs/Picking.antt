@@ -1,56 +1,47 @@
--- A table of what waits on what, and picking from it what waits no more.
-use Rattle.std.specs.Prelude.{◌≡◌, ℕ, ◌+◌, ◌*◌, ◌<◌, Bool, true, false, T, List, length, Some, None, Option, ◌≢◌, slice_index, slice_index_or}
-use Rattle.syntax.specs.Syntax.{NodeSyntax}
-use Rattle.rules.specs.Names.{equation_at}
+-- Things that wait on one another, and picking from them what waits no more.
+use Rattle.std.specs.Prelude.{◌≡◌, ℕ, ◌<◌, Bool, false, not, ◌&&◌, List, [], length, Some, None, Option, ◌≢◌, IsTrue, slice_index, slice_index_or, zip}
+use Rattle.std.specs.List.{list_any}
+use Rattle.arrayvec.specs.ArrayVec.{ArrayVec}
 use Rattle.rules.specs.Definitions.{ByChain}
-use Rattle.order.specs.Waiting.{waits_on}
 
 -- there is a mark at x
 abbrev pub marked : List Bool → ℕ → Bool
 marked s x = slice_index_or s x false
 
--- of n things, x waits on y: row x of the table, with 32 places to a row, has a mark at y
-abbrev pub Waits : List Bool → ℕ → ℕ → ℕ → Type 0
-Waits t n x y = (x < n) × (y < n) × T (marked t (x * 32 + y))
+-- x waits on y: row x of the table has a mark at y
+abbrev pub Waits : List (List Bool) → ℕ → ℕ → Type 0
+Waits t x y = (x < length t) × (y < length t) × IsTrue (marked (slice_index_or t x []) y)
 
--- row i tells which equations of a node the i-th waits on
-abbrev pub RowTells : NodeSyntax → List Bool → ℕ → Type 0
-RowTells n t i = (j : ℕ) → j < length n.equations → marked t (i * 32 + j) ≡ waits_on n (equation_at n i) (equation_at n j)
-
--- every row tells
-abbrev pub Tells : NodeSyntax → List Bool → Type 0
-Tells n t = (i : ℕ) → i < length n.equations → RowTells n t i
+-- a thing with this row waits on something that is not done
+abbrev pub is_held : List Bool → List Bool → Bool
+is_held row done = list_any (λ (waits, is_done). waits && not is_done) (zip row done)
 
 -- all that x waits on is done
-abbrev pub Free : List Bool → ℕ → List Bool → ℕ → Type 0
-Free t n done x = (y : ℕ) → Waits t n x y → T (marked done y)
+abbrev pub Free : List (List Bool) → List Bool → ℕ → Type 0
+Free t done x = (y : ℕ) → Waits t x y → IsTrue (marked done y)
 
 -- x waits on y, which is not done
-abbrev pub Held : List Bool → ℕ → List Bool → ℕ → ℕ → Type 0
-Held t n done x y = Waits t n x y × (marked done y ≡ false)
-
--- something that holds x, or nothing where x is free
-abbrev pub Awaited : List Bool → ℕ → List Bool → ℕ → Option ℕ → Type 0
-Awaited t n done x (Some y) = Held t n done x y
-Awaited t n done x None = Free t n done x
+abbrev pub Held : List (List Bool) → List Bool → ℕ → ℕ → Type 0
+Held t done x y = Waits t x y × (marked done y ≡ false)
 
 -- x, where it is not done, is held by something
-abbrev pub Stuck : List Bool → ℕ → List Bool → ℕ → Type 0
-Stuck t n done x = marked done x ≡ false → (y : ℕ) × Held t n done x y
+abbrev pub Stuck : List (List Bool) → List Bool → ℕ → Type 0
+Stuck t done x = marked done x ≡ false → (y : ℕ) × Held t done x y
 
 -- something that is free and not done, or nothing where all that is not done is held
-abbrev pub Picked : List Bool → ℕ → List Bool → Option ℕ → Type 0
-Picked t n done (Some x) = (x < n) × (marked done x ≡ false) × Free t n done x
-Picked t n done None = (x : ℕ) → x < n → Stuck t n done x
+abbrev pub Picked : List (List Bool) → List Bool → Option ℕ → Type 0
+Picked t done (Some x) = (x < length t) × (marked done x ≡ false) × Free t done x
+Picked t done None = (x : ℕ) → x < length t → Stuck t done x
 
--- the first n places are the n things, each after those that it waits on
-pub record Sorted (t : List Bool) (n : ℕ) (places : List ℕ) : Type 0 where
-  pub inside : (i : ℕ) → i < n → slice_index places i < n
-  pub apart : (i j : ℕ) → i < j → j < n → slice_index places i ≢ slice_index places j
-  pub covers : (x : ℕ) → x < n → (i : ℕ) × (i < n) × (slice_index places i ≡ x)
-  pub after : (i : ℕ) → i < n → (y : ℕ) → Waits t n (slice_index places i) y → (j : ℕ) × (j < i) × (slice_index places j ≡ y)
+-- the order has every thing once, each after those that it waits on
+pub record Sorted (t : List (List Bool)) (order : List ℕ) : Type 0 where
+  pub all : length order ≡ length t
+  pub inside : (i : ℕ) → i < length order → slice_index order i < length t
+  pub apart : (i j : ℕ) → i < j → j < length order → slice_index order i ≢ slice_index order j
+  pub covers : (x : ℕ) → x < length t → (i : ℕ) × (i < length order) × (slice_index order i ≡ x)
+  pub after : (i : ℕ) → i < length order → (y : ℕ) → Waits t (slice_index order i) y → (j : ℕ) × (j < i) × (slice_index order j ≡ y)
 
 -- all are sorted, or one waits on itself by a chain
-abbrev pub Settled : List Bool → ℕ → List ℕ → Bool → Type 0
-Settled t n places true = Sorted t n places
-Settled t n places false = (x : ℕ) × ByChain (Waits t n) x x
+abbrev pub Settled : List (List Bool) → Option (ArrayVec ℕ) → Type 0
+Settled t (Some order) = Sorted t order.items
+Settled t None = (x : ℕ) × ByChain (Waits t) x x

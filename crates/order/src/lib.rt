@@ -3,6 +3,5 @@
 
 mod naming;
 pub mod ordering;
-mod picking;
 mod table;
 mod waiting;

@@ -1,42 +1,105 @@
-ghost use Rattle.std.specs.Prelude.{◌≡◌, ℕ, ◌+◌, ◌*◌, ◌<◌, ◌≤◌, length, ◌≢◌};
-ghost use Rattle.rules.specs.Names.{equation_at};
+ghost use Rattle.std.specs.Prelude.{◌≡◌, ◌≤◌, not, ◌&&◌, length, map, position, zip};
+ghost use Rattle.layout.specs.Layout.{equation_in};
 ghost use Rattle.rules.specs.Views.{node_of};
 ghost use Rattle.order.specs.Waiting.{waits_on};
-ghost use Rattle.order.specs.Picking.{marked, RowTells, Tells};
+ghost use Rattle.order.specs.Picking.{is_held, Picked, Settled};
+ghost use Rattle.order.specs.Table.{wait_rows};
 
-use crate::picking::WIDTH;
 use crate::waiting::equation_waits;
+use arrayvec::ArrayVec;
+use layout::node::Equation;
 use rules::view::NodeView;
+use std::marker::Model;
 
-// Whether one equation waits on another, by their numbers.
-fn waits_at(view: &NodeView<'_>, i: usize, j: usize) -> bool
-    requires i { i < length view.now.equations.now }
-    requires j { j < length view.now.equations.now }
-    ensures { result ≡ waits_on (node_of view.now) (equation_at (node_of view.now) i) (equation_at (node_of view.now) j) }
-{
-    equation_waits(view, &view.equations[i], &view.equations[j])
+// No node has more equations.
+pub const MOST_EQUATIONS: usize = 23;
+
+// Which equations wait on which: in the row of each a mark for each, whether it waits on that. So there are as many
+// marks in a row as rows.
+#[derive(Drop)]
+pub struct WaitTable {
+    rows: ArrayVec<ArrayVec<bool, MOST_EQUATIONS>, MOST_EQUATIONS>,
 }
 
-// Fills one row.
-fn fill_row(view: &NodeView<'_>, table: &mut [bool], i: usize)
-    requires table { length table.old ≡ 1024 }
-    requires few { length view.now.equations.now ≤ 23 }
-    requires row { i < length view.now.equations.now }
-    ensures row { RowTells (node_of view.now) table.new i }
-    ensures other { (x j : ℕ) → j < 32 → (x ≢ i) → marked table.new (x * 32 + j) ≡ marked table.old (x * 32 + j) }
+impl Model for WaitTable {
+    ghost use Rattle.std.specs.Prelude.{◌≡◌, Bool, List, length, map, All};
+    ghost use Rattle.arrayvec.specs.ArrayVec.{ArrayVec};
+
+    ghost Value = { List (List Bool) };
+
+    ghost view = { λ t. map (λ (row : ArrayVec Bool). row.items) t.rows.items };
+
+    ghost invariant = { λ t. All (λ (row : ArrayVec Bool). length row.items ≡ length t.rows.items) t.rows.items };
+}
+
+// Which equations one of them waits on.
+fn row_of(view: &NodeView<'_>, equation: &Equation) -> ArrayVec<bool, MOST_EQUATIONS>
+    requires { length view.now.equations.now ≤ MOST_EQUATIONS }
+    ensures { result.items ≡ map (waits_on (node_of view.now) (equation_in view.now.cells.now equation.now)) (node_of view.now).equations }
 {
-    for j in 0..view.equations.len() {
-        table[i * WIDTH + j] = waits_at(view, i, j);
+    let mut row = ArrayVec::new();
+    for on in view.equations {
+        row.push(equation_waits(view, equation, on));
     }
+    row
 }
 
-// Notes in a table which equations wait on which.
-pub fn fill(view: &NodeView<'_>, table: &mut [bool])
-    requires table { length table.old ≡ 1024 }
-    requires few { length view.now.equations.now ≤ 23 }
-    ensures { Tells (node_of view.now) table.new }
+// Whether one with these marks waits on something that is not done.
+fn is_held(row: &[bool], done: &[bool]) -> bool
+    ensures { result ≡ is_held row.now done.now }
 {
-    for i in 0..view.equations.len() {
-        fill_row(view, table, i);
+    row.iter()
+        .zip(done)
+        .any(|(waits, is_done)| *waits && !*is_done)
+}
+
+// The first row of what is not done and waits on nothing that is not.
+fn free_row(rows: &[ArrayVec<bool, MOST_EQUATIONS>], done: &[bool]) -> Option<usize>
+    ensures { result ≡ position (λ (row, is_done). not is_done && not (is_held row.items done.now)) (zip rows.now done.now) }
+{
+    rows.iter()
+        .zip(done)
+        .position(|(row, is_done)| !*is_done && !is_held(row, done))
+}
+
+impl WaitTable {
+    // The table of a node.
+    pub fn of(view: &NodeView<'_>) -> Self
+        requires { length view.now.equations.now ≤ MOST_EQUATIONS }
+        ensures { result ≡ wait_rows (node_of view.now) }
+    {
+        let mut rows = ArrayVec::new();
+        for equation in view.equations {
+            rows.push(row_of(view, equation));
+        }
+        WaitTable { rows }
+    }
+
+    fn len(&self) -> usize
+        ensures value { result ≡ length self.now }
+        ensures few { result ≤ MOST_EQUATIONS }
+    {
+        self.rows.len()
+    }
+
+    // The first that is not done and waits on nothing that is not.
+    fn next(&self, done: &[bool; MOST_EQUATIONS]) -> Option<usize>
+        ensures { Picked self.now done.now result }
+    {
+        free_row(&self.rows, done)
+    }
+
+    // All of them, each after those that it waits on; none where some wait on one another in a circle.
+    pub fn order(&self) -> Option<ArrayVec<u8, MOST_EQUATIONS>>
+        ensures { Settled self.now result }
+    {
+        let mut done = [false; MOST_EQUATIONS];
+        let mut order = ArrayVec::new();
+        for _ in 0..self.len() {
+            let x = self.next(&done)?;
+            order.push(x as u8);
+            done[x] = true;
+        }
+        Some(order)
     }
 }

@@ -3,8 +3,9 @@ use layout::node::Span;
 use syntax::cell::UnaryOp;
 use syntax::header::{Constant, Kind};
 
-// One step of an expanded expression: a cell as it was read, but its flows go by their numbers in the program.
-#[derive(Clone, Copy)]
+// One step of an expanded expression: a cell as it was read, but its flows go by their numbers in the program. As
+// `Cell<u16>` it would carry its parameter through each crate that reads, writes or examines cells, all of one width.
+#[derive(Clone, Copy, Debug, PartialEq, Eq)]
 pub enum WideCell {
     Flow(u16),
     Truth(bool),

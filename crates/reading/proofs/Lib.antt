@@ -1,6 +1,6 @@
 pub mod Takes
 pub mod Gathering
-pub mod Filling
-pub mod StoringLoops
 pub mod Endings
+pub mod Steps
+pub mod Loops
 pub mod Loading

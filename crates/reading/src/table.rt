@@ -1,9 +1,12 @@
 ghost use Rattle.std.specs.Prelude.{◌≡◌, [], length};
 ghost use Rattle.syntax.specs.Decoder.{decode_into};
-ghost use Rattle.layout.specs.Held.{Holds, PastBlank, Loads, read_answer, read_block};
+ghost use Rattle.layout.specs.Held.{Holds, PastBlank, read_answer, read_block};
+ghost use Rattle.reading.specs.Storing.{Grown, GivesBlock};
 
-use crate::reader::BitReader;
-use layout::node::BLANK_NODE;
+use crate::reader::BlockReader;
+use arrayvec::ArrayVec;
+use layout::node::Node;
+use layout::store::CellStore;
 use layout::table::Table;
 use syntax::fault::ReadFault;
 
@@ -18,31 +21,31 @@ fn clear(table: &mut Table<'_>)
     ensures blank { Holds table.new [] }
     ensures long { length table.new.store.cells.now ≡ length table.old.store.cells.now }
 {
-    table.count = 0;
-    table.nodes = [BLANK_NODE; 8];
+    table.nodes.clear();
     table.store.clear();
 }
 
-// Reads a block over blank rows. At a fault the rows hold a part of it.
-fn fill(table: &mut Table<'_>, bytes: &[u8]) -> Result<(), ReadFault>
-    requires { Holds table.old [] }
-    ensures loads { Loads (decode_into (length table.old.store.cells.now) bytes.now) table.new result }
-    ensures past { PastBlank table.new }
-    ensures long { length table.new.store.cells.now ≡ length table.old.store.cells.now }
+// Reads the nodes of a block, and its cells into a store that has none.
+#[tactic(auto, unfolding(syntax::specs::Decoder::decode))]
+fn nodes(bytes: &[u8], store: &mut CellStore<'_>) -> Result<ArrayVec<Node, 8>, ReadFault>
+    requires { store.old.used ≡ 0 }
+    ensures gives { GivesBlock (decode_into (length store.old.cells.now) bytes.now) store.old store.new result }
+    ensures grown { Grown store.old store.new }
 {
-    if table.store.cells.len() < MOST_CELLS {
+    if store.cells.len() < MOST_CELLS {
         return Err(ReadFault::TooFewCells);
     }
     if bytes.is_empty() || bytes.len() > MOST_BYTES {
         return Err(ReadFault::BlockLength);
     }
-    let mut reader = BitReader::new(bytes);
-    reader.mark()?;
-    let count = reader.take(3)? as u8 + 1;
-    reader.nodes(&mut table.store, &mut table.nodes, usize::from(count))?;
+    let mut reader = BlockReader {
+        bytes,
+        at: 0,
+        store,
+    };
+    let nodes = reader.nodes()?;
     reader.filling()?;
-    table.count = count;
-    Ok(())
+    Ok(nodes)
 }
 
 // Reads a block; at a fault the rows are blank.
@@ -53,8 +56,11 @@ pub fn read(table: &mut Table<'_>, bytes: &[u8]) -> Result<(), ReadFault>
     ensures long { length table.new.store.cells.now ≡ length table.old.store.cells.now }
 {
     clear(table);
-    match fill(table, bytes) {
-        Ok(()) => Ok(()),
+    match nodes(bytes, &mut table.store) {
+        Ok(nodes) => {
+            table.nodes = nodes;
+            Ok(())
+        }
         Err(fault) => {
             clear(table);
             Err(fault)

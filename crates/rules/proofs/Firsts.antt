@@ -1,5 +1,6 @@
 -- The first place where a predicate fails.
 use Rattle.std.proofs.Common.{◌≡◌, List, ◌∷◌, ◌++◌, map, Some, None, Option, Result, sym, refl, ap, ◌∙◌}
+use Rattle.std.specs.Option.{option_map}
 use Rattle.rules.specs.declared.fault.ExamineFault.{ExamineFault}
 use Rattle.syntax.specs.Syntax.{BlockSyntax}
 use Rattle.rules.specs.Examined.{First, none, fails, holds, Examined, answer_of}
@@ -41,11 +42,7 @@ module _ {A : Type 0} (P : A → Type 0) (all : List A) where
   left_before xs left x w h = w (Some x) (first_before left h)
 
 -- a predicate of images
-abbrev pub image : {A B : Type 0} → (A → B) → Option A → Option B
-image f None = None
-image f (Some x) = Some (f x)
-
-pub first_map : {A B : Type 0} {P : B → Type 0} (f : A → B) {xs : List A} {r : Option A} → First (λ x. P (f x)) xs r → First P (map f xs) (image f r)
+pub first_map : {A B : Type 0} {P : B → Type 0} (f : A → B) {xs : List A} {r : Option A} → First (λ x. P (f x)) xs r → First P (map f xs) (option_map f r)
 first_map f none = none
 first_map f (fails h) = fails h
 first_map f (holds h more) = holds h (first_map f more)

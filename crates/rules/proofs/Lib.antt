@@ -1,4 +1,4 @@
-pub mod Everies
+pub mod Images
 pub mod Firsts
 pub mod Listings
 pub mod Rows

@@ -1,5 +1,5 @@
 -- The tree that is found cell by cell is the one that the cells list.
-use Rattle.std.proofs.Common.{◌≡◌, ℕ, ◌+◌, ◌≤◌, Bool, true, false, cond, leb, List, [], ◌∷◌, ◌++◌, length, Some, None, Option, sym, refl, ap, ◌∙◌, subst, append_assoc, append-nil, arith}
+use Rattle.std.proofs.Common.{◌≡◌, ◌+◌, ◌≤◌, Bool, true, false, cond, leb, List, [], ◌∷◌, ◌++◌, length, Some, None, Option, sym, refl, ap, ◌∙◌, subst, append_assoc, append-nil, arith}
 use Rattle.std.proofs.lemmas.Bool.{leb-true, le-leb}
 use Rattle.syntax.specs.declared.cell.Cell.{Cell}
 use Rattle.syntax.specs.declared.cell.Cell.TheVariants.{Flow, Truth, Number, Unary, Binary, When, Merge, If}
@@ -31,34 +31,28 @@ run_exp (flow n) cs ts l = run_more (Flow n) cs ts _ refl (omega arith)
 run_exp (truth b) cs ts l = run_more (Truth b) cs ts _ refl (omega arith)
 run_exp (number z) cs ts l = run_more (Number z) cs ts _ refl (omega arith)
 run_exp (unary o e) cs ts l =
-    ap (λ xs. tree_run xs ts) (append_assoc (exp_cells e) (Unary o ∷ []) cs)
-    ∙ run_exp e (Unary o ∷ cs) ts l
-    ∙ run_more (Unary o) cs (simple e ∷ ts) _ refl (omega (arith, exp_waits e))
+    simp append_assoc (run_exp e (Unary o ∷ cs) ts l ∙ run_more (Unary o) cs (simple e ∷ ts) _ refl (omega (arith, exp_waits e)))
 run_exp (binary o a b) cs ts l =
-    ap (λ xs. tree_run xs ts) (append_assoc (exp_cells a) (exp_cells b ++ (Binary o ∷ [])) cs ∙ ap (λ xs. exp_cells a ++ xs) (append_assoc (exp_cells b) (Binary o ∷ []) cs))
-    ∙ run_exp a (exp_cells b ++ (Binary o ∷ cs)) ts (omega arith)
+    simp append_assoc
+    (run_exp a (exp_cells b ++ (Binary o ∷ cs)) ts (omega arith)
     ∙ run_exp b (Binary o ∷ cs) (simple a ∷ ts) (omega arith)
-    ∙ run_more (Binary o) cs (simple b ∷ simple a ∷ ts) _ refl (omega (arith, exp_waits a))
+    ∙ run_more (Binary o) cs (simple b ∷ simple a ∷ ts) _ refl (omega (arith, exp_waits a)))
 run_exp (when e n s) cs ts l =
-    ap (λ xs. tree_run xs ts) (append_assoc (exp_cells e) (When n s ∷ []) cs)
-    ∙ run_exp e (When n s ∷ cs) ts l
-    ∙ run_more (When n s) cs (simple e ∷ ts) _ refl (omega (arith, exp_waits e))
+    simp append_assoc (run_exp e (When n s ∷ cs) ts l ∙ run_more (When n s) cs (simple e ∷ ts) _ refl (omega (arith, exp_waits e)))
 
 run_control : (t : Control) (cs : List Cell) (ts : List Control) → control_waiting t + length ts ≤ 8 → tree_run (control_cells t ++ cs) ts ≡ tree_run cs (t ∷ ts)
 run_control (simple e) cs ts l = run_exp e cs ts l
 run_control (merge n a b) cs ts l =
-    ap (λ xs. tree_run xs ts) (append_assoc (control_cells a) (control_cells b ++ (Merge n ∷ [])) cs ∙ ap (λ xs. control_cells a ++ xs) (append_assoc (control_cells b) (Merge n ∷ []) cs))
-    ∙ run_control a (control_cells b ++ (Merge n ∷ cs)) ts (omega arith)
+    simp append_assoc
+    (run_control a (control_cells b ++ (Merge n ∷ cs)) ts (omega arith)
     ∙ run_control b (Merge n ∷ cs) (a ∷ ts) (omega arith)
-    ∙ run_more (Merge n) cs (b ∷ a ∷ ts) _ refl (omega (arith, control_waits a))
+    ∙ run_more (Merge n) cs (b ∷ a ∷ ts) _ refl (omega (arith, control_waits a)))
 run_control (choose c a b) cs ts l =
-    ap (λ xs. tree_run xs ts)
-    (append_assoc (exp_cells c) (control_cells a ++ (control_cells b ++ (If ∷ []))) cs
-    ∙ ap (λ xs. exp_cells c ++ xs) (append_assoc (control_cells a) (control_cells b ++ (If ∷ [])) cs ∙ ap (λ xs. control_cells a ++ xs) (append_assoc (control_cells b) (If ∷ []) cs)))
-    ∙ run_exp c (control_cells a ++ (control_cells b ++ (If ∷ cs))) ts (omega arith)
+    simp append_assoc
+    (run_exp c (control_cells a ++ (control_cells b ++ (If ∷ cs))) ts (omega arith)
     ∙ run_control a (control_cells b ++ (If ∷ cs)) (simple c ∷ ts) (omega arith)
     ∙ run_control b (If ∷ cs) (a ∷ simple c ∷ ts) (omega arith)
-    ∙ run_more If cs (b ∷ a ∷ simple c ∷ ts) _ refl (omega (arith, exp_waits c))
+    ∙ run_more If cs (b ∷ a ∷ simple c ∷ ts) _ refl (omega (arith, exp_waits c)))
 
 finds_listed : (cells : List Cell) (t : Control) → Lists cells t → tree_of cells ≡ Some t
 unfolding tree_of tree_run
@@ -90,12 +84,6 @@ step_one c f g h e ts = record {
   few = λ l s. (omega (arith, s.0, h e), s.1);
 }
 
-regroup : (ts xs ys zs : List Cell) → ts ++ (xs ++ (ys ++ zs)) ≡ ((ts ++ xs) ++ ys) ++ zs
-regroup ts xs ys zs = simp append_assoc
-
-regroup_three : (ts ws xs ys zs : List Cell) → ts ++ (ws ++ (xs ++ (ys ++ zs))) ≡ (((ts ++ ws) ++ xs) ++ ys) ++ zs
-regroup_three ts ws xs ys zs = simp append_assoc
-
 steps : (c : Cell) (ts : List Control) → Stepped (c ∷ []) ts (tree_step c ts)
 steps (Flow n) ts = record { listed = refl; few = λ l s. (omega arith, s) }
 steps (Truth b) ts = record { listed = refl; few = λ l s. (omega arith, s) }
@@ -107,7 +95,7 @@ steps (Unary o) (choose c a b ∷ ts) = tt
 steps (Binary o) [] = tt
 steps (Binary o) (b ∷ []) = tt
 steps (Binary o) (simple b ∷ simple a ∷ ts) = record {
-  listed = regroup (stack_cells ts) (exp_cells a) (exp_cells b) (Binary o ∷ []);
+  listed = simp append_assoc;
   few = λ l s. (omega (arith, s.0, s.1.0), s.1.1);
 }
 steps (Binary o) (merge n c d ∷ simple a ∷ ts) = tt
@@ -121,14 +109,14 @@ steps (When n s) (choose c a b ∷ ts) = tt
 steps (Merge n) [] = tt
 steps (Merge n) (b ∷ []) = tt
 steps (Merge n) (b ∷ a ∷ ts) = record {
-  listed = regroup (stack_cells ts) (control_cells a) (control_cells b) (Merge n ∷ []);
+  listed = simp append_assoc;
   few = λ l s. (omega (arith, s.0, s.1.0), s.1.1);
 }
 steps If [] = tt
 steps If (b ∷ []) = tt
 steps If (b ∷ a ∷ []) = tt
 steps If (b ∷ a ∷ simple c ∷ ts) = record {
-  listed = regroup_three (stack_cells ts) (exp_cells c) (control_cells a) (control_cells b) (If ∷ []);
+  listed = simp append_assoc;
   few = λ l s. (omega (arith, s.0, s.1.0, s.1.1.0), s.1.1.1);
 }
 steps If (b ∷ a ∷ merge n c d ∷ ts) = tt
@@ -158,12 +146,12 @@ ran [] ts s = (sym (append-nil (stack_cells ts)), s)
 ran (c ∷ cs) ts s = ran_step c cs (ran cs) ts s (tree_step c ts) (steps c ts)
 
 alone_listed : (cells : List Cell) (o : Option (List Control)) → Ran cells [] o → (t : Control) → alone o ≡ Some t → Lists cells t
-alone_listed cells None r t e = let z : ◌≡◌ {A = ℕ} 0 1 = cc in absurd (omega arith)
-alone_listed cells (Some []) r t e = let z : ◌≡◌ {A = ℕ} 0 1 = cc in absurd (omega arith)
+alone_listed cells None r t e = cc
+alone_listed cells (Some []) r t e = cc
 alone_listed cells (Some (u ∷ [])) r t e =
     let same : u ≡ t = cc in
     subst (Lists cells) same (record { listed = r.0; few = omega (arith, r.1.0) })
-alone_listed cells (Some (u ∷ v ∷ ts)) r t e = let z : ◌≡◌ {A = ℕ} 0 1 = cc in absurd (omega arith)
+alone_listed cells (Some (u ∷ v ∷ ts)) r t e = cc
 
 found_listed : (cells : List Cell) (t : Control) → tree_of cells ≡ Some t → Lists cells t
 unfolding tree_of

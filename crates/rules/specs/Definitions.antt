@@ -1,14 +1,13 @@
 -- Which flows are defined, how often, and by what.
-use Rattle.std.specs.Prelude.{◌≡◌, ℕ, ◌+◌, ◌<◌, Bool, cond, T, List, [], ◌∷◌, ◌++◌, length, ◌==◌, ◌≢◌, nat_eq, nat_lt, slice_index}
+use Rattle.std.specs.Prelude.{◌≡◌, ℕ, ◌<◌, Bool, cond, T, List, [], ◌++◌, length, count_by, ◌≢◌, nat_eq, nat_lt, slice_index}
 use Rattle.syntax.specs.Encoder.{joined}
 use Rattle.syntax.specs.Syntax.{Expression, FormSyntax, EquationSyntax, NodeSyntax, plain, delay, call}
 use Rattle.rules.specs.Every.{every_from, has}
 use Rattle.rules.specs.Names.{cell_flows, clock_flows, defined_by, equation_at}
 
 -- how often x stands in a list
-unfoldable pub times : ℕ → List ℕ → ℕ
-times x [] = 0
-times x (y ∷ ys) = cond (x == y) 1 0 + times x ys
+abbrev pub times : ℕ → List ℕ → ℕ
+times x ys = count_by (nat_eq x) ys
 
 -- all that a node's equations define
 abbrev pub defined : NodeSyntax → List ℕ

@@ -3,7 +3,8 @@ use Rattle.std.specs.Prelude.{ℕ, Bool, ◌&&◌, length, ◌==◌, nat_le, nat
 use Rattle.syntax.specs.declared.header.DerivedClock.{DerivedClock}
 use Rattle.syntax.specs.declared.header.Flow as flow
 use Rattle.syntax.specs.Syntax.{Expression, FormSyntax, EquationSyntax, NodeSyntax, BlockSyntax, plain, delay, call}
-use Rattle.rules.specs.Every.{every, every_from}
+use Rattle.std.specs.List.{list_all}
+use Rattle.rules.specs.Every.{every_from}
 use Rattle.rules.specs.Names.{node_at, cell_flows}
 
 -- a flow of the node
@@ -16,7 +17,7 @@ is_clock n k = nat_le k (length n.clocks)
 
 -- every flow is on a clock of the node
 abbrev pub flows_fit : NodeSyntax → Bool
-flows_fit n = every (λ (f : flow.Flow). is_clock n f.clock) n.flows
+flows_fit n = list_all (λ (f : flow.Flow). is_clock n f.clock) n.flows
 
 -- every derived clock, numbered from 1, has a parent with a lower number and goes by a flow of the node
 abbrev pub clocks_fit : NodeSyntax → Bool
@@ -24,7 +25,7 @@ clocks_fit n = every_from (λ i (d : DerivedClock). nat_le d.parent i && is_flow
 
 -- every flow that the cells name is one of the node
 abbrev pub expression_fits : NodeSyntax → Expression → Bool
-expression_fits n e = every (λ c. every (is_flow n) (cell_flows c)) e
+expression_fits n e = list_all (λ c. list_all (is_flow n) (cell_flows c)) e
 
 -- node k: an equation defines flows of the node and names no others; a callee is an earlier node, and the
 -- results and arguments are as many as its outputs and inputs
@@ -35,7 +36,7 @@ form_fits b k n (call m rs es) =
     nat_lt m k
     && (length rs == (node_at b m).outputs
     && (length es == (node_at b m).inputs
-    && (every (is_flow n) rs && every (expression_fits n) es)))
+    && (list_all (is_flow n) rs && list_all (expression_fits n) es)))
 
 abbrev pub equation_fits : BlockSyntax → ℕ → NodeSyntax → EquationSyntax → Bool
 equation_fits b k n e = is_clock n e.clock && form_fits b k n e.form

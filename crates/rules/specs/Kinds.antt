@@ -8,8 +8,10 @@ use Rattle.syntax.specs.declared.header.DerivedClock.{DerivedClock}
 use Rattle.syntax.specs.declared.header.Constant.{Constant}
 use Rattle.syntax.specs.declared.header.Constant.TheVariants as constant
 use Rattle.syntax.specs.Syntax.{FormSyntax, NodeSyntax, BlockSyntax, plain, delay, call}
-use Rattle.rules.specs.Every.{every, every_from}
+use Rattle.std.specs.List.{list_all}
+use Rattle.rules.specs.Every.{every_from}
 use Rattle.rules.specs.Names.{node_at, flow_kind}
+use Rattle.rules.specs.Shared.{is_this, shared, where_true}
 use Rattle.rules.specs.Trees.{Exp, Control, flow, truth, number, unary, binary, when, simple, merge, choose, tree_of}
 
 abbrev pub same_kind : Kind → Kind → Bool
@@ -20,12 +22,11 @@ same_kind kind.Number kind.Number = true
 
 -- there is a kind, and it is this one
 abbrev pub of_kind : Option Kind → Kind → Bool
-of_kind None k = false
-of_kind (Some j) k = same_kind j k
+of_kind a k = is_this same_kind a k
 
 -- a kind, where a test holds
 abbrev pub kind_if : Bool → Kind → Option Kind
-kind_if t k = cond t (Some k) None
+kind_if t k = where_true t (Some k)
 
 -- not takes a truth and gives one, minus a number
 abbrev pub unary_kind : UnaryOp → Option Kind → Option Kind
@@ -42,12 +43,11 @@ binary_kind o a b =
 
 -- the kind of both, where they share one
 abbrev pub shared_kind : Option Kind → Option Kind → Option Kind
-shared_kind a None = None
-shared_kind a (Some k) = kind_if (of_kind a k) k
+shared_kind a b = shared same_kind a b
 
 -- what is asked of a truth, and then a kind
 abbrev pub under_truth : Option Kind → Option Kind → Option Kind
-under_truth t a = cond (of_kind t kind.Truth) a None
+under_truth t a = where_true (of_kind t kind.Truth) a
 
 -- the kind of a tree, where it has one
 abbrev pub exp_kind : NodeSyntax → Exp → Option Kind
@@ -73,7 +73,7 @@ constant_kind (constant.Number z) = kind.Number
 
 -- the flows of derived clocks are truths
 abbrev pub clocks_are_truths : NodeSyntax → Bool
-clocks_are_truths n = every (λ (d : DerivedClock). same_kind (flow_kind n d.flow) kind.Truth) n.clocks
+clocks_are_truths n = list_all (λ (d : DerivedClock). same_kind (flow_kind n d.flow) kind.Truth) n.clocks
 
 -- a flow has the kind of its expression and of its first value; results and arguments have, in order, the
 -- kinds of the callee's outputs and inputs

@@ -1,6 +1,7 @@
 pub mod Every
 pub mod Trees
 pub mod Names
+pub mod Shared
 pub mod Fit
 pub mod Shape
 pub mod Kinds

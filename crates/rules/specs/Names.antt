@@ -1,5 +1,5 @@
 -- What the numbers of a node name.
-use Rattle.std.specs.Prelude.{ℕ, zero, suc, ◌-◌, cond, List, [], ◌∷◌, get_or, Some, None, Option, ◌==◌, slice_index_or}
+use Rattle.std.specs.Prelude.{ℕ, zero, suc, ◌-◌, cond, List, [], ◌∷◌, get_or, ◌==◌, slice_index_or}
 use Rattle.syntax.specs.declared.cell.Cell.{Cell}
 use Rattle.syntax.specs.declared.cell.Cell.TheVariants.{Flow, Truth, Number, Unary, Binary, When, Merge, If}
 use Rattle.syntax.specs.declared.header.Kind.{Kind}
@@ -45,11 +45,6 @@ cell_flows (Binary o) = []
 cell_flows (When n s) = n ∷ []
 cell_flows (Merge n) = n ∷ []
 cell_flows If = []
-
--- a flow, where there is one, as a list
-abbrev pub one_flow : Option ℕ → List ℕ
-one_flow None = []
-one_flow (Some x) = x ∷ []
 
 -- the flows that an equation defines
 abbrev pub defined_by : FormSyntax → List ℕ

@@ -1,7 +1,7 @@
 -- Cells that list a tree.
 use Rattle.std.specs.Prelude.{Bool, true, false, is_some, Some, None, Option}
 use Rattle.syntax.specs.Syntax.{FormSyntax, plain, delay, call}
-use Rattle.rules.specs.Every.{every}
+use Rattle.std.specs.List.{list_all}
 use Rattle.rules.specs.Trees.{Control, simple, merge, choose, tree_of}
 
 abbrev pub is_exp : Option Control → Bool
@@ -14,4 +14,4 @@ is_exp (Some (choose c a b)) = false
 abbrev pub form_shaped : FormSyntax → Bool
 form_shaped (plain f e) = is_some (tree_of e)
 form_shaped (delay f v e) = is_exp (tree_of e)
-form_shaped (call m rs es) = every (λ e. is_exp (tree_of e)) es
+form_shaped (call m rs es) = list_all (λ e. is_exp (tree_of e)) es

@@ -1,5 +1,5 @@
 -- How large the expansion of a node is, counted without expanding it.
-use Rattle.std.specs.Prelude.{ℕ, ◌+◌, Bool, not, ◌&&◌, ◌||◌, List, [], ◌∷◌, ◌++◌, length, get_or, nat_le, slice_index_or}
+use Rattle.std.specs.Prelude.{ℕ, ◌+◌, Bool, not, ◌&&◌, ◌||◌, List, [], ◌∷◌, ◌++◌, length, get_or, sum_by, nat_le, slice_index_or}
 use Rattle.syntax.specs.Syntax.{Expression, FormSyntax, EquationSyntax, NodeSyntax, BlockSyntax, plain, delay, call}
 use Rattle.rules.specs.Names.{node_at}
 use Rattle.rules.specs.Clocks.{is_main}
@@ -16,9 +16,8 @@ abbrev pub plus : Size → Size → Size
 plus a b = record { flows = a.flows + b.flows; cells = a.cells + b.cells }
 
 -- the cells of arguments
-unfoldable pub cells_in : List Expression → ℕ
-cells_in [] = 0
-cells_in (e ∷ es) = length e + cells_in es
+abbrev pub cells_in : List Expression → ℕ
+cells_in es = sum_by (λ (e : Expression). length e) es
 
 -- what an equation adds, where the sizes of the earlier nodes are known: a call adds a flow for each input
 -- and each local of its callee, the cells of its arguments, and what the callee's own calls add

@@ -6,6 +6,8 @@ use Rattle.layout.specs.declared.node.Form.TheVariants.{Plain, Delay, Call}
 use Rattle.layout.specs.Layout.{results_in, equation_in, node_in}
 use Rattle.rules.specs.declared.view.NodeView.{NodeView}
 use Rattle.rules.specs.declared.view.BlockView.{BlockView}
+use Rattle.rules.specs.declared.view.chain.ClockChain.{ClockChain}
+use Rattle.rules.specs.Names.{chain}
 
 abbrev pub node_of : NodeView → NodeSyntax
 node_of v = record {
@@ -25,3 +27,7 @@ abbrev pub row_defines : Form → List ℕ
 row_defines (Plain f s) = f ∷ []
 row_defines (Delay f v s) = f ∷ []
 row_defines (Call k rs es) = results_in rs
+
+-- the flows of a chain of clocks that are left
+unfoldable pub chain_left : ClockChain → List ℕ
+chain_left c = chain c.clocks.now c.most c.clock

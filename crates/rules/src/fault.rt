@@ -1,5 +1,5 @@
 ghost use Rattle.std.specs.Prelude.{◌≡◌};
-ghost use Rattle.rules.specs.Faults.{equation_number, fault_at, fault_in, fault_of_examine};
+ghost use Rattle.rules.specs.Faults.{equation_number, fault_at, fault_of_examine};
 
 use syntax::fault::{Fault, Stage};
 
@@ -27,7 +27,8 @@ pub enum Check {
     Size,
 }
 
-// Why a block may not run, and where.
+// Why a block may not run, and where. What fails for a node as a whole has its number and no `Place`, which could
+// name an equation.
 #[derive(Clone, Copy, Debug, PartialEq, Eq)]
 pub enum ExamineFault {
     Misfit(Place),
@@ -59,42 +60,11 @@ impl Check {
 // The second place of a fault where no equation is named.
 const NO_EQUATION: usize = 31;
 
-fn fault_in(number: u8, node: usize, equation: usize) -> Fault
-    ensures { result ≡ fault_in number node equation }
-{
-    Fault {
-        number,
-        stage: Stage::Examining,
-        first: node,
-        second: equation,
-    }
-}
-
 impl Place {
     fn equation_number(self) -> usize
         ensures { result ≡ equation_number self.equation }
     {
-        match self.equation {
-            Some(equation) => equation,
-            None => NO_EQUATION,
-        }
-    }
-}
-
-impl ExamineFault {
-    // Number, stage and places.
-    pub fn fault(self) -> Fault
-        ensures { result ≡ fault_of_examine self }
-    {
-        match self {
-            ExamineFault::Misfit(p) => fault_in(6, p.node, p.equation_number()),
-            ExamineFault::OutOfShape(p) => fault_in(7, p.node, p.equation_number()),
-            ExamineFault::WrongKind(p) => fault_in(8, p.node, p.equation_number()),
-            ExamineFault::WrongClock(p) => fault_in(9, p.node, p.equation_number()),
-            ExamineFault::NotDefinedOnce { node } => fault_in(10, node, NO_EQUATION),
-            ExamineFault::RestsOnItself { node } => fault_in(11, node, NO_EQUATION),
-            ExamineFault::TooLarge { node } => fault_in(12, node, NO_EQUATION),
-        }
+        self.equation.unwrap_or(NO_EQUATION)
     }
 }
 
@@ -102,6 +72,20 @@ impl From<ExamineFault> for Fault {
     ghost from_gives = { λ e r. r ≡ fault_of_examine e };
 
     fn from(e: ExamineFault) -> Fault {
-        e.fault()
+        let (number, first, second) = match e {
+            ExamineFault::Misfit(p) => (6, p.node, p.equation_number()),
+            ExamineFault::OutOfShape(p) => (7, p.node, p.equation_number()),
+            ExamineFault::WrongKind(p) => (8, p.node, p.equation_number()),
+            ExamineFault::WrongClock(p) => (9, p.node, p.equation_number()),
+            ExamineFault::NotDefinedOnce { node } => (10, node, NO_EQUATION),
+            ExamineFault::RestsOnItself { node } => (11, node, NO_EQUATION),
+            ExamineFault::TooLarge { node } => (12, node, NO_EQUATION),
+        };
+        Fault {
+            number,
+            stage: Stage::Examining,
+            first,
+            second,
+        }
     }
 }

@@ -1,7 +1,10 @@
+ghost use Rattle.std.specs.Prelude.{◌≤◌, length};
+
 use layout::node::{Equation, Node};
 use syntax::cell::Cell;
 use syntax::header::{DerivedClock, Flow};
 
+pub mod chain;
 pub mod looking;
 
 // A block as it is examined: its nodes, and the cells of all their expressions.
@@ -9,6 +12,13 @@ pub mod looking;
 pub struct BlockView<'a> {
     pub nodes: &'a [Node],
     pub cells: &'a [Cell],
+}
+
+// A block that rows can hold: it has at most 8 nodes.
+#[derive(Clone, Copy)]
+pub struct HeldBlock<'a> {
+    pub view: BlockView<'a>,
+    ghost few: { length view.nodes.now ≤ 8 },
 }
 
 // A node as it is examined: just the rows that it has, and the cells of the block.

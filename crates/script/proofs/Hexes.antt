@@ -1,7 +1,11 @@
 -- A turn of the loops that read and write digits.
-use Rattle.std.proofs.Common.{◌≡◌, ℕ, ◌+◌, ◌*◌, ◌/◌, ◌%◌, ◌<◌, List, [], ◌∷◌, ◌++◌, length, get_or, take, drop, Some, None, Option, sym, refl, ap, ◌∙◌, append_assoc, append-nil, arith, length-drop}
-use Rattle.std.proofs.lemmas.List.{take_more, drop_more}
+use Rattle.std.proofs.Common.{◌≡◌, ℕ, ◌+◌, ◌*◌, ◌/◌, ◌%◌, ◌^◌, ◌-◌, ◌<◌, ◌≤◌, eqb, List, [], ◌∷◌, ◌++◌, length, get_or, take, drop, Some, None, Option, true, false, sym, refl, ap, ◌∙◌, append_assoc, append-nil, arith}
+use Rattle.std.proofs.lemmas.List.{take_all, take_more}
+use Rattle.std.proofs.lemmas.Fmt.{hex_byte}
 use Rattle.std.proofs.lemmas.Bool.Decides.{nat_tests}
+use Rattle.std.specs.Bool.{then_some}
+use Rattle.std.specs.Fmt.{digits, format_spec, padded_integral}
+use Rattle.std.specs.Option.{option_map}
 use Rattle.script.specs.Hex.{digit_value, byte_then, byte_of_digits, digit_of, unhex, hex_of, RoundTrip}
 
 -- bytes that are read, before those that are left
@@ -14,48 +18,43 @@ pushed : (xs : List ℕ) (b : ℕ) (o : Option (List ℕ)) → ahead (xs ++ b �
 pushed xs b None = refl
 pushed xs b (Some ys) = ap Some (append_assoc xs (b ∷ []) ys)
 
--- the two digits at an even place
-unhex_pair : (cs : List ℕ) (i : ℕ) → 2 * i + 1 < length cs → unhex (drop (2 * i) cs) ≡ byte_then (byte_of_digits (get_or cs (2 * i) 0) (get_or cs (2 * i + 1) 0)) (unhex (drop (2 * (i + 1)) cs))
+-- the first two digits, and what follows them
+unhex_pair : (ds : List ℕ) → 2 ≤ length ds → unhex ds ≡ byte_then (byte_of_digits (get_or ds 0 0) (get_or ds 1 0)) (unhex (take (length ds - 2) (drop 2 ds)))
 unfolding unhex
-unhex_pair cs i h =
-    let a = drop_more cs (2 * i) 0 (omega arith) in
-    let b = drop_more cs (2 * i + 1) 0 h in
-    let s : 2 * i + 1 + 1 ≡ 2 * (i + 1) = omega arith in
-    rw (a, b, s)
+unhex_pair [] h = absurd (omega arith)
+unhex_pair (c ∷ []) h = absurd (omega arith)
+unhex_pair (c ∷ d ∷ cs) h = let t : take (length (c ∷ d ∷ cs) - 2) cs ≡ cs = take_all _ cs (omega arith) in rw t refl
 
 -- a turn of the loop that reads
-pub ahead_more : (xs cs : List ℕ) (i b : ℕ) → 2 * i + 1 < length cs → Some b ≡ byte_of_digits (get_or cs (2 * i) 0) (get_or cs (2 * i + 1) 0) → ahead (xs ++ b ∷ []) (unhex (drop (2 * (i + 1)) cs)) ≡ ahead xs (unhex (drop (2 * i) cs))
-ahead_more xs cs i b h e =
-    pushed xs b (unhex (drop (2 * (i + 1)) cs)) ∙ ap (λ o. ahead xs (byte_then o (unhex (drop (2 * (i + 1)) cs)))) e ∙ ap (ahead xs) (sym (unhex_pair cs i h))
+pub ahead_more : (xs ds : List ℕ) (b : ℕ) → 2 ≤ length ds → Some b ≡ byte_of_digits (get_or ds 0 0) (get_or ds 1 0) → ahead (xs ++ b ∷ []) (unhex (take (length ds - 2) (drop 2 ds))) ≡ ahead xs (unhex ds)
+ahead_more xs ds b h e =
+    pushed xs b (unhex (take (length ds - 2) (drop 2 ds))) ∙ ap (λ o. ahead xs (byte_then o (unhex (take (length ds - 2) (drop 2 ds))))) e ∙ ap (ahead xs) (sym (unhex_pair ds h))
 
 -- where it stops at two bytes that are no digits
-pub ahead_stops : (xs cs : List ℕ) (i : ℕ) → 2 * i + 1 < length cs → None ≡ byte_of_digits (get_or cs (2 * i) 0) (get_or cs (2 * i + 1) 0) → None ≡ ahead xs (unhex (drop (2 * i) cs))
-ahead_stops xs cs i h e = ap (λ o. ahead xs (byte_then o (unhex (drop (2 * (i + 1)) cs)))) e ∙ ap (ahead xs) (sym (unhex_pair cs i h))
+pub ahead_stops : (xs ds : List ℕ) → 2 ≤ length ds → None ≡ byte_of_digits (get_or ds 0 0) (get_or ds 1 0) → None ≡ ahead xs (unhex ds)
+ahead_stops xs ds h e = ap (λ o. ahead xs (byte_then o (unhex (take (length ds - 2) (drop 2 ds))))) e ∙ ap (ahead xs) (sym (unhex_pair ds h))
 
--- a text of no digit, and of one
-unhex_few : (xs cs : List ℕ) → (length cs ≡ 0 → Some xs ≡ ahead xs (unhex cs)) × (length cs ≡ 1 → None ≡ ahead xs (unhex cs))
+-- where no digit is left, or one
+pub ahead_ends : {V : Type 0} (f : V → List ℕ) (v : V) (ds : List ℕ) → length ds < 2 → option_map f (then_some (eqb (length ds) 0) v) ≡ ahead (f v) (unhex ds)
 unfolding unhex
-unhex_few xs [] = (λ _. ap Some (sym (append-nil xs)), λ h. absurd (omega arith))
-unhex_few xs (c ∷ []) = (λ h. absurd (omega arith), λ _. refl)
-unhex_few xs (c ∷ d ∷ cs) = (λ h. absurd (omega arith), λ h. absurd (omega arith))
-
--- the end of an even text
-pub ahead_all : (xs cs : List ℕ) (i : ℕ) → length cs ≡ 2 * i → Some xs ≡ ahead xs (unhex (drop (2 * i) cs))
-ahead_all xs cs i h = (unhex_few xs (drop (2 * i) cs)).0 (simp length-drop (omega arith))
-
--- the end of an odd one
-pub ahead_odd : (xs cs : List ℕ) (i : ℕ) → length cs ≡ 2 * i + 1 → None ≡ ahead xs (unhex (drop (2 * i) cs))
-ahead_odd xs cs i h = (unhex_few xs (drop (2 * i) cs)).1 (simp length-drop (omega arith))
+ahead_ends f v [] h = ap Some (sym (append-nil (f v)))
+ahead_ends f v (c ∷ []) h = refl
+ahead_ends f v (c ∷ d ∷ cs) h = absurd (omega arith)
 
 -- the digits of one byte more
-hex_push : (bs : List ℕ) (b : ℕ) → hex_of (bs ++ b ∷ []) ≡ (hex_of bs ++ digit_of (b / 16) ∷ []) ++ digit_of (b % 16) ∷ []
+hex_push : (bs : List ℕ) (b : ℕ) → hex_of (bs ++ b ∷ []) ≡ hex_of bs ++ (digit_of (b / 16) ∷ digit_of (b % 16) ∷ [])
 unfolding hex_of
 hex_push [] b = refl
 hex_push (x ∷ bs) b = ap (λ l. digit_of (x / 16) ∷ digit_of (x % 16) ∷ l) (hex_push bs b)
 
+-- what `{:02X}` writes of a byte
+pub byte_text : (b : ℕ) → b < 256 → padded_integral (format_spec 32 0 4 2 (2 ^ 64 - 1)) false [] (digits 16 true b) ≡ digit_of (b / 16) ∷ digit_of (b % 16) ∷ []
+byte_text b h = hex_byte true b h
+
 -- a turn of the loop that writes
-pub hex_more : (bs : List ℕ) (i : ℕ) → i < length bs → hex_of (take (i + 1) bs) ≡ (hex_of (take i bs) ++ digit_of (get_or bs i 0 / 16) ∷ []) ++ digit_of (get_or bs i 0 % 16) ∷ []
-hex_more bs i h = ap hex_of (take_more bs i 0 h) ∙ hex_push (take i bs) (get_or bs i 0)
+pub hex_more : (bs : List ℕ) (i : ℕ) (old new : List ℕ) → i < length bs → old ≡ hex_of (take i bs) → new ≡ old ++ (digit_of (get_or bs i 0 / 16) ∷ digit_of (get_or bs i 0 % 16) ∷ []) → new ≡ hex_of (take (i + 1) bs)
+hex_more bs i old new h e w =
+    w ∙ ap (λ o. o ++ (digit_of (get_or bs i 0 / 16) ∷ digit_of (get_or bs i 0 % 16) ∷ [])) e ∙ sym (ap hex_of (take_more bs i 0 h) ∙ hex_push (take i bs) (get_or bs i 0))
 
 -- a digit that is written reads back
 digit_back : (v : ℕ) → v < 16 → digit_value (digit_of v) ≡ Some v

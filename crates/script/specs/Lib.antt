@@ -1,3 +1,4 @@
+pub mod Answers
 pub mod Dry
 pub mod Hex
 pub mod Names

@@ -1,25 +1,25 @@
 -- The lines that a script prints.
-use Rattle.std.specs.Prelude.{ℕ, List, [], ◌∷◌, ◌++◌, length, take, Ok, Err, codes, decimal, Result}
-use Rattle.syntax.specs.Faults.{fault_of_read, fault_of_write}
+use Rattle.std.specs.Prelude.{◌≡◌, ℕ, List, [], ◌∷◌, ◌++◌, length, take, Ok, Err, codes, decimal, Result}
+use Rattle.syntax.specs.Faults.{fault_of_read, fault_of_write, told_text}
 use Rattle.syntax.specs.declared.fault.Fault.{Fault}
 use Rattle.syntax.specs.declared.fault.ReadFault.{ReadFault}
 use Rattle.syntax.specs.declared.fault.WriteFault.{WriteFault}
-use Rattle.syntax.specs.declared.fault.Stage.{Stage}
-use Rattle.syntax.specs.declared.fault.Stage.TheVariants.{Reading, Examining, Clearing, Running}
 use Rattle.script.specs.declared.fault.LineFault.{LineFault}
 use Rattle.script.specs.declared.fault.LineFault.TheVariants.{UnknownCall, UnknownSystem, UnknownNumbers, WordCount, NotBytes, NotInRange, NotYet, OutOfMemory}
 use Rattle.script.specs.Hex.{hex_of}
 
-abbrev pub stage_name : Stage → List ℕ
-stage_name Reading = codes "reading"
-stage_name Examining = codes "examining"
-stage_name Clearing = codes "clearing"
-stage_name Running = codes "running"
-
 -- a refusal: its number, its stage and both places
 abbrev pub refusal_text : List ℕ → Fault → List ℕ
-refusal_text call f =
-    call ++ (codes " refused " ++ (decimal f.number ++ (codes " " ++ (stage_name f.stage ++ (codes " " ++ (decimal f.first ++ (codes " " ++ decimal f.second)))))))
+refusal_text call f = call ++ (codes " refused " ++ told_text f)
+
+-- that the call was refused by the fault that something converts to
+abbrev pub TellsRefusal : {E : Type 0} → (E → Fault → Type 0) → List ℕ → E → List ℕ → Type 0
+TellsRefusal converts call e text = (f : Fault) × converts e f × (text ≡ refusal_text call f)
+
+-- that the call is done, or its refusal
+abbrev pub TellsOutcome : {E : Type 0} → (E → Fault → Type 0) → List ℕ → Result (Unit {0}) E → List ℕ → Type 0
+TellsOutcome converts call (Ok done) text = text ≡ call ++ codes " done"
+TellsOutcome converts call (Err e) text = TellsRefusal converts call e text
 
 abbrev pub read_text : Result (Unit {0}) ReadFault → List ℕ
 read_text (Ok done) = codes "read done"

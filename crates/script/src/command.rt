@@ -1,5 +1,5 @@
 // The class system of a hall: ranks from 0 to a top, compartments, or pairs of classes of two such.
-#[derive(Clone, Copy)]
+#[derive(Clone, Copy, Debug, PartialEq, Eq)]
 pub enum System {
     Ranks { top: u8 },
     Compartments,
@@ -8,14 +8,14 @@ pub enum System {
 }
 
 // What the numbers of a hall count: whole points, or hundredths of a point.
-#[derive(Clone, Copy)]
+#[derive(Clone, Copy, Debug, PartialEq, Eq)]
 pub enum Numbers {
     Points,
     Hundredths,
 }
 
 // How many rows each table of a hall has.
-#[derive(Clone, Copy)]
+#[derive(Clone, Copy, Debug, PartialEq, Eq)]
 pub struct Tables {
     pub cells: u32,
     pub expanded: u32,
@@ -27,7 +27,7 @@ pub struct Tables {
 }
 
 // One of the things that a hall is made with.
-#[derive(Clone, Copy)]
+#[derive(Clone, Copy, Debug, PartialEq, Eq)]
 pub enum Setting {
     System(System),
     Numbers(Numbers),
@@ -35,7 +35,7 @@ pub enum Setting {
 }
 
 // A call that prints an outcome. The bytes are those of a block.
-#[derive(Drop)]
+#[derive(Debug, PartialEq, Eq, Drop)]
 pub enum Call {
     Read(Vec<u8>),
     Write,
@@ -44,7 +44,7 @@ pub enum Call {
 }
 
 // What a line of a script asks for.
-#[derive(Drop)]
+#[derive(Debug, PartialEq, Eq, Drop)]
 pub enum Command {
     Set(Setting),
     Call(Call),

@@ -1,11 +1,13 @@
-ghost use Rattle.std.specs.Prelude.{Some};
+ghost use Rattle.std.specs.Prelude.{◌≡◌, Some};
+ghost use Rattle.script.specs.declared.fault.LineFault.TheVariants.{OutOfMemory};
 ghost use Rattle.script.specs.Outcomes.{fault_text};
 
 use std::alloc::{AllocError, AllocFailed};
+use std::error::Error;
 use std::fmt;
 
 // What is wrong with a line that is no call.
-#[derive(Clone, Copy)]
+#[derive(Clone, Copy, Debug, PartialEq, Eq)]
 pub enum LineFault {
     UnknownCall,
     UnknownSystem,
@@ -18,12 +20,16 @@ pub enum LineFault {
 }
 
 impl From<AllocError> for LineFault {
+    ghost from_gives = { λ _ fault. fault ≡ OutOfMemory };
+
     fn from(_e: AllocError) -> LineFault {
         LineFault::OutOfMemory
     }
 }
 
 impl<T: Drop> From<AllocFailed<T>> for LineFault {
+    ghost from_gives = { λ _ fault. fault ≡ OutOfMemory };
+
     fn from(_e: AllocFailed<T>) -> LineFault {
         LineFault::OutOfMemory
     }
@@ -45,3 +51,5 @@ impl fmt::Display for LineFault {
         }
     }
 }
+
+impl Error for LineFault {}

@@ -1,56 +1,31 @@
-ghost use Rattle.std.specs.Prelude.{◌≡◌, IfOk, string_bytes, codes};
-ghost use Rattle.syntax.specs.Faults.{fault_of_read};
-ghost use Rattle.script.specs.Outcomes.{stage_name, refusal_text, read_text, examine_text, written_text, write_text, wrong_text};
+ghost use Rattle.std.specs.Prelude.{◌≡◌, IfOk, string_bytes};
+ghost use Rattle.script.specs.Outcomes.{TellsRefusal, TellsOutcome, written_text, write_text, wrong_text};
 
 use crate::fault::LineFault;
 use crate::hex::hex_of_bytes;
 use layout::parts::front;
 use std::alloc::{AllocError, Global};
-use syntax::fault::{Fault, ReadFault, Stage, WriteFault};
-
-fn stage_word(stage: Stage) -> &'static str
-    ensures { result.now ≡ stage_name stage }
-{
-    match stage {
-        Stage::Reading => "reading",
-        Stage::Examining => "examining",
-        Stage::Clearing => "clearing",
-        Stage::Running => "running",
-    }
-}
+use syntax::fault::{Fault, WriteFault};
 
 // What a call that was refused prints.
-fn refusal(heap: Global, call: &str, fault: Fault) -> Result<String, AllocError>
-    ensures { IfOk result (λ s. string_bytes s ≡ refusal_text call.now fault) }
+pub fn refusal<E: Into<Fault>>(heap: Global, call: &str, refused: E) -> Result<String, AllocError>
+    ensures { IfOk result (λ s. TellsRefusal E.converts call.now refused (string_bytes s)) }
 {
-    let stage = stage_word(fault.stage);
-    let number = fault.number;
-    let first = fault.first;
-    let second = fault.second;
-    format!(in heap; "{call} refused {number} {stage} {first} {second}")
+    let fault: Fault = refused.into();
+    format!(in heap; "{call} refused {fault}")
 }
 
-pub fn read_outcome(heap: Global, answer: Result<(), ReadFault>) -> Result<String, AllocError>
-    ensures { IfOk result (λ s. string_bytes s ≡ read_text answer) }
+// What a call prints that tells no more than that it is done.
+pub fn outcome<E: Into<Fault>>(
+    heap: Global,
+    call: &str,
+    answer: Result<(), E>,
+) -> Result<String, AllocError>
+    ensures { IfOk result (λ s. TellsOutcome E.converts call.now answer (string_bytes s)) }
 {
     match answer {
-        Ok(()) => String::from_str(heap, "read done"),
-        Err(e) => refusal(heap, "read", e.fault()),
-    }
-}
-
-pub fn list_refusal(heap: Global, fault: ReadFault) -> Result<String, AllocError>
-    ensures { IfOk result (λ s. string_bytes s ≡ refusal_text (codes "list") (fault_of_read fault)) }
-{
-    refusal(heap, "list", fault.fault())
-}
-
-pub fn examine_outcome(heap: Global, answer: Result<(), Fault>) -> Result<String, AllocError>
-    ensures { IfOk result (λ s. string_bytes s ≡ examine_text answer) }
-{
-    match answer {
-        Ok(()) => String::from_str(heap, "examine done"),
-        Err(fault) => refusal(heap, "examine", fault),
+        Ok(()) => format!(in heap; "{call} done"),
+        Err(e) => refusal(heap, call, e),
     }
 }
 
@@ -76,7 +51,7 @@ pub fn write_outcome(
 {
     match answer {
         Ok(n) => written(heap, front(out, n)),
-        Err(e) => refusal(heap, "write", e.fault()),
+        Err(e) => refusal(heap, "write", e),
     }
 }
 

@@ -1,4 +1,4 @@
-ghost use Rattle.std.specs.Prelude.{◌≡◌, ◌==◌, slice_index};
+ghost use Rattle.std.specs.Prelude.{◌≡◌};
 ghost use Rattle.script.specs.Words.{number_in};
 
 use crate::command::{Call, Command, Numbers, Setting, System, Tables};
@@ -10,37 +10,18 @@ const MOST_ROWS: u32 = 1_000_000;
 
 // The words of a line, which spaces and tabs part. A `#` starts a comment.
 pub fn words_of<'a>(heap: Global, line: &'a str) -> Result<Vec<&'a str>, AllocError> {
-    let text = match line.split_once('#') {
-        Some((before, _)) => before,
-        None => line,
-    };
+    let text = line.split_once('#').map_or(line, |(before, _)| before);
     text.split_ascii_whitespace().collect(heap)
-}
-
-// Whether a word begins with a plus sign.
-fn has_plus(word: &str) -> bool
-    ensures { result ≡ (slice_index word.now 0 == 43) }
-{
-    let bytes = word.as_bytes();
-    if bytes.is_empty() {
-        false
-    } else {
-        bytes[0] == b'+'
-    }
 }
 
 // The number that a word of digits writes, where it is at most `most`.
 fn number(word: &str, most: u32) -> Result<u32, LineFault>
     ensures { result ≡ number_in word.now most }
 {
-    // `parse` would take the sign
-    if has_plus(word) {
-        return Err(LineFault::NotInRange { most });
-    }
     match word.parse::<u32>() {
-        Ok(n) if n <= most => Ok(n),
-        Ok(_) => Err(LineFault::NotInRange { most }),
-        Err(_) => Err(LineFault::NotInRange { most }),
+        // `parse` takes a plus sign too
+        Ok(n) if n <= most && !word.starts_with('+') => Ok(n),
+        _ => Err(LineFault::NotInRange { most }),
     }
 }
 
@@ -51,6 +32,14 @@ fn top(word: &str) -> Result<u8, LineFault>
     Ok(number(word, 255)? as u8)
 }
 
+// How many rows a table has.
+fn row_count(word: &str) -> Result<u32, LineFault>
+    ensures { result ≡ number_in word.now 1000000 }
+{
+    number(word, MOST_ROWS)
+}
+
+// What the words after a call's own say. They are a part of a line and no type, so there is no `TryFrom`.
 fn system(words: &[&str]) -> Result<System, LineFault> {
     match words {
         ["compartments"] => Ok(System::Compartments),
@@ -79,13 +68,13 @@ fn tables(words: &[&str]) -> Result<Tables, LineFault> {
         return Err(LineFault::WordCount);
     };
     Ok(Tables {
-        cells: number(cells, MOST_ROWS)?,
-        expanded: number(expanded, MOST_ROWS)?,
-        flows: number(flows, MOST_ROWS)?,
-        held: number(held, MOST_ROWS)?,
-        answers: number(answers, MOST_ROWS)?,
-        classes: number(classes, MOST_ROWS)?,
-        stack: number(stack, MOST_ROWS)?,
+        cells: row_count(cells)?,
+        expanded: row_count(expanded)?,
+        flows: row_count(flows)?,
+        held: row_count(held)?,
+        answers: row_count(answers)?,
+        classes: row_count(classes)?,
+        stack: row_count(stack)?,
     })
 }
 
@@ -93,41 +82,37 @@ fn tables(words: &[&str]) -> Result<Tables, LineFault> {
 fn bytes(heap: Global, words: &[&str]) -> Result<Vec<u8>, LineFault> {
     match words {
         ["-"] => Ok(Vec::new(heap)),
-        [word] => match bytes_of_hex(heap, word)? {
-            Some(bytes) => Ok(bytes),
-            None => Err(LineFault::NotBytes),
-        },
+        [word] => bytes_of_hex(heap, word)?.ok_or(LineFault::NotBytes),
         _ => Err(LineFault::WordCount),
     }
 }
 
 fn write_call(words: &[&str]) -> Result<Call, LineFault> {
-    if words.is_empty() {
-        Ok(Call::Write)
-    } else {
-        Err(LineFault::WordCount)
+    match words {
+        [] => Ok(Call::Write),
+        _ => Err(LineFault::WordCount),
     }
 }
 
 fn command(heap: Global, call: &str, rest: &[&str]) -> Result<Command, LineFault> {
-    match call {
-        "system" => Ok(Command::Set(Setting::System(system(rest)?))),
-        "numbers" => Ok(Command::Set(Setting::Numbers(numbers(rest)?))),
-        "tables" => Ok(Command::Set(Setting::Tables(tables(rest)?))),
-        "read" => Ok(Command::Call(Call::Read(bytes(heap, rest)?))),
-        "write" => Ok(Command::Call(write_call(rest)?)),
-        "list" => Ok(Command::Call(Call::List(bytes(heap, rest)?))),
-        "examine" => Ok(Command::Call(Call::Examine(bytes(heap, rest)?))),
-        "open" | "beat" | "look" | "restart" | "close" | "clear" => Err(LineFault::NotYet),
-        _ => Err(LineFault::UnknownCall),
-    }
+    Ok(match call {
+        "system" => Command::Set(Setting::System(system(rest)?)),
+        "numbers" => Command::Set(Setting::Numbers(numbers(rest)?)),
+        "tables" => Command::Set(Setting::Tables(tables(rest)?)),
+        "read" => Command::Call(Call::Read(bytes(heap, rest)?)),
+        "write" => Command::Call(write_call(rest)?),
+        "list" => Command::Call(Call::List(bytes(heap, rest)?)),
+        "examine" => Command::Call(Call::Examine(bytes(heap, rest)?)),
+        "open" | "beat" | "look" | "restart" | "close" | "clear" => return Err(LineFault::NotYet),
+        _ => return Err(LineFault::UnknownCall),
+    })
 }
 
 // What a line asks for; `None` where it has no word.
 pub fn parse(heap: Global, line: &str) -> Result<Option<Command>, LineFault> {
     let words = words_of(heap, line)?;
-    match words.split_first() {
-        Some((call, rest)) => Ok(Some(command(heap, call, rest)?)),
-        None => Ok(None),
-    }
+    let Some((call, rest)) = words.split_first() else {
+        return Ok(None);
+    };
+    command(heap, call, rest).map(Some)
 }

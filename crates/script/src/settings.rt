@@ -4,14 +4,14 @@ ghost use Rattle.script.specs.Settings.{with_setting};
 use crate::command::{Numbers, Setting, System, Tables};
 
 // What a hall is made with.
-#[derive(Clone, Copy)]
+#[derive(Clone, Copy, Debug, PartialEq, Eq)]
 pub struct Settings {
     pub system: System,
     pub numbers: Numbers,
     pub tables: Tables,
 }
 
-// The tables are as long as any block may need.
+// The tables are as long as any block may need. A constant and no `Default`: a contract can name its values.
 pub const START: Settings = Settings {
     system: System::Ranks { top: 255 },
     numbers: Numbers::Points,

@@ -5,7 +5,8 @@ use Rattle.syntax.specs.Syntax.{Expression, FormSyntax, EquationSyntax, NodeSynt
 use Rattle.syntax.specs.Parse.{field, many}
 use Rattle.syntax.specs.Decoder.{read_expression, read_constant, read_flow, read_clock, read_plain, read_delay, read_results, read_arguments, read_call, read_form, read_form_number, read_equation, read_count, read_equations, read_node, read_mark, read_fields}
 use Rattle.syntax.specs.Encoder.{Field, joined, expression_fields, constant_fields, flow_fields, clock_fields, result_fields, form_number, form_fields, equation_fields, equations_fields, node_fields, block_fields}
-use Rattle.syntax.specs.Laws.{All, Counted, ExpressionFits, FormFits, EquationFits, NodeFits, Encodable}
+use Rattle.std.specs.List.{AllByRecursion}
+use Rattle.syntax.specs.Laws.{Counted, ExpressionFits, FormFits, EquationFits, NodeFits, Encodable}
 use Rattle.syntax.proofs.Standing.{AreBits, Stands, Made, made_ok, made_err, made_after, made_cond, stands_append, stands_parts, FieldFits}
 use Rattle.syntax.proofs.Undoing.{Undoes, some_by, some_fields, all_append, field_back, undoes_field, undoes_some, many_back, many_again, many_fits}
 use Rattle.syntax.proofs.CellTrips.{undoes_expression, undoes_flow, undoes_clock, undoes_constant}
@@ -20,11 +21,11 @@ results_fields = some_fields 3 result_fields
 abbrev arguments_fields : List Expression → List Field
 arguments_fields = some_fields 3 expression_fields
 
-pub undoes_results : Undoes read_results (λ rs. Counted 1 8 rs × All (λ f. f < 32) rs) results_fields
+pub undoes_results : Undoes read_results (λ rs. Counted 1 8 rs × AllByRecursion (λ f. f < 32) rs) results_fields
 unfolding read_results
 undoes_results = undoes_some undoes_result 3
 
-pub undoes_arguments : Undoes read_arguments (λ es. Counted 1 8 es × All ExpressionFits es) arguments_fields
+pub undoes_arguments : Undoes read_arguments (λ es. Counted 1 8 es × AllByRecursion ExpressionFits es) arguments_fields
 unfolding read_arguments
 undoes_arguments = undoes_some undoes_expression 3
 
@@ -73,7 +74,7 @@ form_again bits at (call n rs es) q g s =
     let r = stands_parts bits s.0 (results_fields rs) (arguments_fields es) q s.2 in
     rw (s.1, undoes_results.again bits s.0 rs r.0 (g.1, g.2) r.1, undoes_arguments.again bits r.0 es q (g.3, g.4) r.2)
 
-form_room : (x : FormSyntax) → FormFits x → All FieldFits (form_fields x)
+form_room : (x : FormSyntax) → FormFits x → AllByRecursion FieldFits (form_fields x)
 form_room (plain f e) g = (g.0, undoes_expression.fits e g.1)
 form_room (delay f v e) g = (g.0, all_append FieldFits (constant_fields v) (expression_fields e) (undoes_constant.fits v g.1) (undoes_expression.fits e g.2))
 form_room (call n rs es) g = (g.0, all_append FieldFits (results_fields rs) (arguments_fields es) (undoes_results.fits rs (g.1, g.2)) (undoes_arguments.fits es (g.3, g.4)))
@@ -126,7 +127,7 @@ count_again : (bits : List ℕ) (at n m : ℕ) → 1 ≤ n → n ≤ 23 → fiel
 unfolding read_count
 count_again bits at n m k l e = rw (e, le-leb 1 n k, le-leb n 23 l)
 
-equations_back : (bits : List ℕ) (at : ℕ) → AreBits bits → Made (read_equations bits at) (λ es q. Counted 1 23 es × All EquationFits es × Stands bits at (equations_fields es) q)
+equations_back : (bits : List ℕ) (at : ℕ) → AreBits bits → Made (read_equations bits at) (λ es q. Counted 1 23 es × AllByRecursion EquationFits es × Stands bits at (equations_fields es) q)
 unfolding read_equations
 equations_back bits at h =
     made_after (read_count bits at) _ (count_back bits at h) λ n m k.
@@ -136,7 +137,7 @@ equations_back bits at h =
           ((omega (arith, k.0, j.0), omega (arith, k.1, j.0)), j.1, (m, rw j.0 k.2, j.2));
     }
 
-equations_again : (bits : List ℕ) (at : ℕ) (es : List EquationSyntax) (q : ℕ) → Counted 1 23 es → All EquationFits es → Stands bits at (equations_fields es) q → read_equations bits at ≡ Ok (es, q)
+equations_again : (bits : List ℕ) (at : ℕ) (es : List EquationSyntax) (q : ℕ) → Counted 1 23 es → AllByRecursion EquationFits es → Stands bits at (equations_fields es) q → read_equations bits at ≡ Ok (es, q)
 unfolding read_equations
 equations_again bits at es q k g s =
     rw (count_again bits at (length es) s.0 k.0 k.1 s.1) (many_again undoes_equation bits s.0 es q g s.2)
@@ -194,9 +195,9 @@ node_again bits at n q g s =
       equations_again bits c.0 n.equations q g.few_equations g.equations c.2,
     )
 
-node_room : (n : NodeSyntax) → NodeFits n → All FieldFits (node_fields n)
+node_room : (n : NodeSyntax) → NodeFits n → AllByRecursion FieldFits (node_fields n)
 node_room n g =
-    let equations : All FieldFits (equations_fields n.equations) = (omega (arith, g.few_equations), many_fits undoes_equation n.equations g.equations) in
+    let equations : AllByRecursion FieldFits (equations_fields n.equations) = (omega (arith, g.few_equations), many_fits undoes_equation n.equations g.equations) in
     let clocks = all_append FieldFits (joined clock_fields n.clocks) _ (many_fits undoes_clock n.clocks g.clocks) equations in
     let flows = all_append FieldFits (joined flow_fields n.flows) _ (many_fits undoes_flow n.flows g.flows) clocks in
     (omega (arith, g.inputs), (omega (arith, g.outputs), (omega (arith, g.locals), (omega (arith, g.few_clocks), flows))))

@@ -16,7 +16,8 @@ use Rattle.syntax.specs.declared.header.Constant.TheVariants as constant
 use Rattle.syntax.specs.Parse.{field}
 use Rattle.syntax.specs.Decoder.{flag, unary_op, kind_of, read_flow_cell, read_truth_cell, read_number_cell, read_unary_cell, read_binary_cell, read_when_cell, read_merge_cell, operands, read_cell, read_expression, read_flow, read_clock, read_constant}
 use Rattle.syntax.specs.Encoder.{cell_fields, unary_number, kind_number, expression_fields, flow_fields, clock_fields, constant_fields}
-use Rattle.syntax.specs.Laws.{All, CellFits, ExpressionFits, FlowFits, ClockFits, ConstantFits}
+use Rattle.std.specs.List.{AllByRecursion}
+use Rattle.syntax.specs.Laws.{CellFits, ExpressionFits, FlowFits, ClockFits, ConstantFits}
 use Rattle.syntax.proofs.Standing.{AreBits, Stands, Made, made_ok, made_err, made_after, made_cond, FieldFits}
 use Rattle.syntax.proofs.Undoing.{Undoes, field_back, undoes_some}
 
@@ -131,7 +132,7 @@ cell_again bits at (When n t) q g s = rw (s.1, s.2.1, s.2.2.1, flag-bit t, s.2.2
 cell_again bits at (Merge n) q g s = rw (s.1, s.2.1, s.2.2)
 cell_again bits at If q g s = rw (s.1, s.2)
 
-cell_room : (x : Cell) → CellFits x → All FieldFits (cell_fields x)
+cell_room : (x : Cell) → CellFits x → AllByRecursion FieldFits (cell_fields x)
 cell_room (Flow n) g = (omega arith, (g, tt))
 cell_room (Truth t) g = (omega arith, (bit_below t, tt))
 cell_room (Number z) g = (omega arith, ((of_z_fits w32 z g).fits, tt))
@@ -195,7 +196,7 @@ unfolding read_constant
 constant_again bits at (constant.Truth t) q g s = rw (s.1, s.2.1, flag-bit t, s.2.2)
 constant_again bits at (constant.Number z) q g s = rw (s.1, s.2.1, to_z-of_z w32 z g, s.2.2)
 
-constant_room : (v : Constant) → ConstantFits v → All FieldFits (constant_fields v)
+constant_room : (v : Constant) → ConstantFits v → AllByRecursion FieldFits (constant_fields v)
 constant_room (constant.Truth t) g = (omega arith, (bit_below t, tt))
 constant_room (constant.Number z) g = (omega arith, ((of_z_fits w32 z g).fits, tt))
 

@@ -7,7 +7,7 @@ use Rattle.bits.specs.Bits.{number_of, digits, field_at}
 use Rattle.bits.proofs.BitLists.{number_of-below, digits_number, number_digits, length_digits}
 use Rattle.syntax.specs.Parse.{Parser, after, field, found}
 use Rattle.syntax.specs.Encoder.{Field, joined, field_bits, fields_bits}
-use Rattle.syntax.specs.Laws.{All}
+use Rattle.std.specs.List.{AllByRecursion}
 
 -- every element is 0 or 1
 abbrev pub AreBits : List ℕ → Type 0
@@ -120,7 +120,7 @@ stands_laid bits at (f ∷ fs) q h l s =
     record { laid = e ∙ rw d.laid (sym (append_assoc (field_bits f) (fields_bits fs) (drop q bits))); inside = d.inside }
 
 -- bits that are those of fields hold the fields
-pub laid_stands : (bits : List ℕ) (at : ℕ) (fs : List Field) (rest : List ℕ) → All FieldFits fs → at ≤ length bits → drop at bits ≡ fields_bits fs ++ rest → Stands bits at fs (at + length (fields_bits fs))
+pub laid_stands : (bits : List ℕ) (at : ℕ) (fs : List Field) (rest : List ℕ) → AllByRecursion FieldFits fs → at ≤ length bits → drop at bits ≡ fields_bits fs ++ rest → Stands bits at fs (at + length (fields_bits fs))
 unfolding joined
 laid_stands bits at [] rest g l e = omega arith
 laid_stands bits at (f ∷ fs) rest g l e =

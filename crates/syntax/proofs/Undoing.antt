@@ -2,7 +2,8 @@
 use Rattle.std.proofs.Common.{◌≡◌, ℕ, zero, suc, ◌+◌, ◌-◌, ◌^◌, ◌<◌, List, [], ◌∷◌, ◌++◌, length, Ok, refl, ap, arith}
 use Rattle.syntax.specs.Parse.{Parser, ◌>>=◌, field, many}
 use Rattle.syntax.specs.Encoder.{Field, joined}
-use Rattle.syntax.specs.Laws.{All, Counted}
+use Rattle.std.specs.List.{AllByRecursion}
+use Rattle.syntax.specs.Laws.{Counted}
 use Rattle.syntax.proofs.Standing.{AreBits, Stands, Made, made_ok, made_after, stands_append, stands_parts, field_below, FieldFits}
 
 -- what p reads is good and stands there as its fields; what is good and stands there is read by p; and
@@ -10,9 +11,9 @@ use Rattle.syntax.proofs.Standing.{AreBits, Stands, Made, made_ok, made_after, s
 pub record Undoes {A : Type 0} (p : Parser A) (Good : A → Type 0) (fields : A → List Field) : Type 0 where
   pub back : (bits : List ℕ) (at : ℕ) → AreBits bits → Made (p bits at) (λ x q. Good x × Stands bits at (fields x) q)
   pub again : (bits : List ℕ) (at : ℕ) (x : A) (q : ℕ) → Good x → Stands bits at (fields x) q → p bits at ≡ Ok (x, q)
-  pub fits : (x : A) → Good x → All FieldFits (fields x)
+  pub fits : (x : A) → Good x → AllByRecursion FieldFits (fields x)
 
-pub all_append : {A : Type 0} (P : A → Type 0) (xs ys : List A) → All P xs → All P ys → All P (xs ++ ys)
+pub all_append : {A : Type 0} (P : A → Type 0) (xs ys : List A) → AllByRecursion P xs → AllByRecursion P ys → AllByRecursion P (xs ++ ys)
 all_append P [] ys a b = b
 all_append P (x ∷ xs) ys a b = (a.0, all_append P xs ys a.1 b)
 
@@ -34,13 +35,13 @@ some_by w p = do
   many p (n + 1)
 
 abbrev pub SomeGood : {A : Type 0} → ℕ → (A → Type 0) → List A → Type 0
-SomeGood w Good xs = Counted 1 (2 ^ w) xs × All Good xs
+SomeGood w Good xs = Counted 1 (2 ^ w) xs × AllByRecursion Good xs
 
 abbrev pub some_fields : {A : Type 0} → ℕ → (A → List Field) → List A → List Field
 some_fields w fields xs = (w, length xs - 1) ∷ joined fields xs
 
 module _ {A : Type 0} {p : Parser A} {Good : A → Type 0} {fields : A → List Field} (u : Undoes p Good fields) where
-  pub many_back : (n : ℕ) (bits : List ℕ) (at : ℕ) → AreBits bits → Made (many p n bits at) (λ xs q. (length xs ≡ n) × All Good xs × Stands bits at (joined fields xs) q)
+  pub many_back : (n : ℕ) (bits : List ℕ) (at : ℕ) → AreBits bits → Made (many p n bits at) (λ xs q. (length xs ≡ n) × AllByRecursion Good xs × Stands bits at (joined fields xs) q)
   unfolding many joined
   many_back zero bits at h = made_ok (refl, tt, refl)
   many_back (suc n) bits at h =
@@ -48,14 +49,14 @@ module _ {A : Type 0} {p : Parser A} {Good : A → Type 0} {fields : A → List 
       made_after (many p n bits m) _ (many_back n bits m h) λ xs q b.
       made_ok (ap suc b.0, (a.0, b.1), stands_append bits at (fields x) (joined fields xs) m q a.1 b.2)
 
-  pub many_again : (bits : List ℕ) (at : ℕ) (xs : List A) (q : ℕ) → All Good xs → Stands bits at (joined fields xs) q → many p (length xs) bits at ≡ Ok (xs, q)
+  pub many_again : (bits : List ℕ) (at : ℕ) (xs : List A) (q : ℕ) → AllByRecursion Good xs → Stands bits at (joined fields xs) q → many p (length xs) bits at ≡ Ok (xs, q)
   unfolding many joined
   many_again bits at [] q g s = rw s
   many_again bits at (x ∷ xs) q g s =
       let r = stands_parts bits at (fields x) (joined fields xs) q s in
       rw (u.again bits at x r.0 g.0 r.1, many_again bits r.0 xs q g.1 r.2)
 
-  pub many_fits : (xs : List A) → All Good xs → All FieldFits (joined fields xs)
+  pub many_fits : (xs : List A) → AllByRecursion Good xs → AllByRecursion FieldFits (joined fields xs)
   unfolding joined
   many_fits [] g = tt
   many_fits (x ∷ xs) g = all_append FieldFits (fields x) (joined fields xs) (u.fits x g.0) (many_fits xs g.1)

@@ -1,6 +1,7 @@
 -- What can be encoded, and that decoding and encoding undo each other.
 use Rattle.std.specs.Prelude.{◌≡◌, ℕ, ◌+◌, ◌<◌, ◌≤◌, List, [], ◌∷◌, length, Ok, FitsSigned}
 use Rattle.std.specs.Int.{w32}
+use Rattle.std.specs.List.{AllByRecursion}
 use Rattle.syntax.specs.declared.cell.Cell.{Cell}
 use Rattle.syntax.specs.declared.cell.Cell.TheVariants.{Flow, Truth, Number, Unary, Binary, When, Merge, If}
 use Rattle.syntax.specs.declared.header.Flow as flow
@@ -11,11 +12,6 @@ use Rattle.bits.specs.Bits.{Bytes}
 use Rattle.syntax.specs.Syntax.{Expression, FormSyntax, EquationSyntax, NodeSyntax, BlockSyntax, plain, delay, call}
 use Rattle.syntax.specs.Decoder.{decode}
 use Rattle.syntax.specs.Encoder.{encode}
-
--- P holds of every element
-abbrev pub All : {A : Type 0} → (A → Type 0) → List A → Type 0
-All P [] = Unit {0}
-All P (x ∷ xs) = P x × All P xs
 
 -- a list of `least` to `most` elements
 abbrev pub Counted : {A : Type 0} → ℕ → ℕ → List A → Type 0
@@ -33,7 +29,7 @@ CellFits (Merge n) = n < 32
 CellFits If = Unit {0}
 
 abbrev pub ExpressionFits : Expression → Type 0
-ExpressionFits e = Counted 1 32 e × All CellFits e
+ExpressionFits e = Counted 1 32 e × AllByRecursion CellFits e
 
 abbrev pub FlowFits : flow.Flow → Type 0
 FlowFits f = f.clock < 8
@@ -48,7 +44,7 @@ ConstantFits (constant.Number z) = FitsSigned w32 z
 abbrev pub FormFits : FormSyntax → Type 0
 FormFits (plain f e) = (f < 32) × ExpressionFits e
 FormFits (delay f v e) = (f < 32) × ConstantFits v × ExpressionFits e
-FormFits (call n rs es) = (n < 8) × Counted 1 8 rs × All (λ f. f < 32) rs × Counted 1 8 es × All ExpressionFits es
+FormFits (call n rs es) = (n < 8) × Counted 1 8 rs × AllByRecursion (λ f. f < 32) rs × Counted 1 8 es × AllByRecursion ExpressionFits es
 
 abbrev pub EquationFits : EquationSyntax → Type 0
 EquationFits e = (e.clock < 8) × FormFits e.form
@@ -59,15 +55,15 @@ pub record NodeFits (n : NodeSyntax) : Type 0 where
   pub outputs : (1 ≤ n.outputs) × (n.outputs ≤ 8)
   pub locals : n.locals ≤ 15
   pub counted : length n.flows ≡ n.inputs + n.outputs + n.locals
-  pub flows : All FlowFits n.flows
+  pub flows : AllByRecursion FlowFits n.flows
   pub few_clocks : length n.clocks ≤ 7
-  pub clocks : All ClockFits n.clocks
+  pub clocks : AllByRecursion ClockFits n.clocks
   pub few_equations : Counted 1 23 n.equations
-  pub equations : All EquationFits n.equations
+  pub equations : AllByRecursion EquationFits n.equations
 
 -- a block that has an encoding of its own
 abbrev pub Encodable : BlockSyntax → Type 0
-Encodable b = Counted 1 8 b × All NodeFits b
+Encodable b = Counted 1 8 b × AllByRecursion NodeFits b
 
 -- decoding and encoding undo each other: what decodes is encodable and encodes to the same bytes; what
 -- is encodable and takes at most 2,048 bytes decodes to itself

@@ -5,3 +5,4 @@ pub mod Decoder
 pub mod Encoder
 pub mod Laws
 pub mod Examples
+pub mod Words

@@ -1,5 +1,7 @@
-ghost use Rattle.std.specs.Prelude.{◌≡◌};
-ghost use Rattle.syntax.specs.Faults.{fault_of_read, fault_of_write};
+ghost use Rattle.std.specs.Prelude.{◌≡◌, Some};
+ghost use Rattle.syntax.specs.Faults.{fault_of_read, fault_of_write, stage_name, told_text};
+
+use std::fmt;
 
 // Where in a hall's work a call was refused.
 #[derive(Clone, Copy, Debug, PartialEq, Eq)]
@@ -10,6 +12,19 @@ pub enum Stage {
     Running,
 }
 
+impl fmt::Display for Stage {
+    ghost output = { λ stage. Some (stage_name stage) };
+
+    fn fmt<W: fmt::Write>(&self, f: &mut fmt::Formatter<W>) -> fmt::Result {
+        match self {
+            Stage::Reading => f.write_str("reading"),
+            Stage::Examining => f.write_str("examining"),
+            Stage::Clearing => f.write_str("clearing"),
+            Stage::Running => f.write_str("running"),
+        }
+    }
+}
+
 // A refusal as it is told: its number, its stage and two places, 0 where a place says nothing.
 #[derive(Clone, Copy, Debug, PartialEq, Eq)]
 pub struct Fault {
@@ -17,6 +32,20 @@ pub struct Fault {
     pub stage: Stage,
     pub first: usize,
     pub second: usize,
+}
+
+impl fmt::Display for Fault {
+    ghost output = { λ fault. Some (told_text fault) };
+
+    fn fmt<W: fmt::Write>(&self, f: &mut fmt::Formatter<W>) -> fmt::Result {
+        let Fault {
+            number,
+            stage,
+            first,
+            second,
+        } = self;
+        write!(f, "{number} {stage} {first} {second}")
+    }
 }
 
 // Why bytes are not read as a block.
@@ -34,12 +63,11 @@ pub enum ReadFault {
     Filling { bit: usize },
 }
 
-impl ReadFault {
-    // Number, stage and places.
-    pub fn fault(self) -> Fault
-        ensures { result ≡ fault_of_read self }
-    {
-        let (number, first) = match self {
+impl From<ReadFault> for Fault {
+    ghost from_gives = { λ e r. r ≡ fault_of_read e };
+
+    fn from(e: ReadFault) -> Fault {
+        let (number, first) = match e {
             ReadFault::TooFewCells => (1, 0),
             ReadFault::BlockLength => (2, 0),
             ReadFault::Ends { bit } => (3, bit),
@@ -55,14 +83,6 @@ impl ReadFault {
     }
 }
 
-impl From<ReadFault> for Fault {
-    ghost from_gives = { λ e r. r ≡ fault_of_read e };
-
-    fn from(e: ReadFault) -> Fault {
-        e.fault()
-    }
-}
-
 // Why rows are not written as bytes.
 #[derive(Clone, Copy, Debug, PartialEq, Eq)]
 pub enum WriteFault {
@@ -70,12 +90,11 @@ pub enum WriteFault {
     TooShort,
 }
 
-impl WriteFault {
-    // Number, stage and places.
-    pub fn fault(self) -> Fault
-        ensures { result ≡ fault_of_write self }
-    {
-        match self {
+impl From<WriteFault> for Fault {
+    ghost from_gives = { λ e r. r ≡ fault_of_write e };
+
+    fn from(e: WriteFault) -> Fault {
+        match e {
             WriteFault::TooShort => Fault {
                 number: 18,
                 stage: Stage::Running,

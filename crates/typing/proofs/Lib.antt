@@ -1,4 +1,2 @@
-pub mod Piles
-pub mod Listings
 pub mod Images
 pub mod Runs

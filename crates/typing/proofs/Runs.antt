@@ -6,6 +6,7 @@ use Rattle.syntax.specs.Syntax.{NodeSyntax}
 use Rattle.typing.specs.declared.part.Part.{Part}
 use Rattle.typing.specs.Stack.{next, alone_part}
 use Rattle.typing.specs.Parts.{part_step, part_run, alone_after}
+use Rattle.typing.proofs.Images.{tree_image}
 
 module _ (n : NodeSyntax) (cs : List Cell) where
   -- the cells that are left make of the stack what all make of none
@@ -29,3 +30,6 @@ module _ (n : NodeSyntax) (cs : List Cell) where
   pub running_all : (i : ℕ) (ps : List Part) → length cs ≤ i → Running i ps → alone_part ps ≡ alone_after (part_run n cs [])
   unfolding part_run
   running_all i ps l h = ap alone_after (sym (at_drop_all (λ xs. part_run n xs ps) cs i l) ∙ h)
+
+-- what the loop over the cells needs
+pub ruleset runs = (running_more, running_stops, running_all, tree_image)

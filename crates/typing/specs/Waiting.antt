@@ -1,17 +1,8 @@
--- The list that a stack in an array stands for.
-use Rattle.std.specs.Prelude.{ℕ, zero, suc, false, List, [], ◌∷◌, None, slice_index_or}
+-- The list that a stack stands for.
+use Rattle.std.specs.Prelude.{List, reverse}
 use Rattle.typing.specs.declared.part.Part.{Part}
 use Rattle.typing.specs.declared.waiting.Waiting.{Waiting}
 
--- what fills an array
-abbrev pub no_part : Part
-no_part = record { control = false; kind = None; clock = None }
-
--- the first k of an array, the last of them first
-unfoldable pub piled : ℕ → List Part → List Part
-piled zero ps = []
-piled (suc k) ps = slice_index_or ps k no_part ∷ piled k ps
-
 -- the parts that wait, the latest first
 abbrev pub waiting_in : Waiting → List Part
-waiting_in w = piled w.count w.parts
+waiting_in w = reverse w.parts.items

@@ -1,5 +1,5 @@
 ghost use Rattle.std.specs.Prelude.{◌≡◌, ◌&&◌};
-ghost use Rattle.rules.specs.Kinds.{same_kind, of_kind, unary_kind, binary_kind, shared_kind, under_truth};
+ghost use Rattle.rules.specs.Kinds.{of_kind, unary_kind, binary_kind, under_truth};
 ghost use Rattle.rules.specs.Names.{flow_kind};
 ghost use Rattle.rules.specs.Views.{node_of};
 
@@ -14,43 +14,24 @@ pub fn flow_kind(node: &NodeView<'_>, flow: u8) -> Kind
     flow_at(node.flows, usize::from(flow)).kind
 }
 
-pub fn same_kind(a: Kind, b: Kind) -> bool
-    ensures { result ≡ same_kind a b }
+// Not works on a truth, minus on a number.
+pub fn unary_kind(op: UnaryOp, a: Option<Kind>) -> Option<Kind>
+    ensures { result ≡ unary_kind op a }
 {
-    match (a, b) {
-        (Kind::Truth, Kind::Truth) | (Kind::Number, Kind::Number) => true,
-        _ => false,
-    }
-}
-
-// Whether there is a kind, and it is this one.
-pub fn of_kind(found: Option<Kind>, kind: Kind) -> bool
-    ensures { result ≡ of_kind found kind }
-{
-    match found {
-        Some(k) => same_kind(k, kind),
-        None => false,
+    match (op, a) {
+        (UnaryOp::Not, Some(Kind::Truth)) | (UnaryOp::Minus, Some(Kind::Number)) => a,
+        _ => None,
     }
 }
 
 fn both_are(a: Option<Kind>, b: Option<Kind>, kind: Kind) -> bool
     ensures { result ≡ (of_kind a kind && of_kind b kind) }
 {
-    of_kind(a, kind) && of_kind(b, kind)
+    a == Some(kind) && b == Some(kind)
 }
 
-// Not works on a truth, minus on a number.
-pub fn unary_kind(op: UnaryOp, a: Option<Kind>) -> Option<Kind>
-    ensures { result ≡ unary_kind op a }
-{
-    match op {
-        UnaryOp::Not if of_kind(a, Kind::Truth) => Some(Kind::Truth),
-        UnaryOp::Minus if of_kind(a, Kind::Number) => Some(Kind::Number),
-        _ => None,
-    }
-}
-
-// And, or and xor work on truths, plus to quotient on numbers; below and same compare numbers.
+// And, or and xor work on truths, plus to quotient on numbers; below and same compare numbers. A code is matched
+// by ranges and guards, since the project's rules ask for that form here.
 pub fn binary_kind(code: u8, a: Option<Kind>, b: Option<Kind>) -> Option<Kind>
     ensures { result ≡ binary_kind code a b }
 {
@@ -62,21 +43,11 @@ pub fn binary_kind(code: u8, a: Option<Kind>, b: Option<Kind>) -> Option<Kind>
     }
 }
 
-// The kind of both.
-pub fn shared_kind(a: Option<Kind>, b: Option<Kind>) -> Option<Kind>
-    ensures { result ≡ shared_kind a b }
-{
-    match b {
-        Some(kind) if of_kind(a, kind) => b,
-        _ => None,
-    }
-}
-
 // A kind, where what decides is a truth.
 pub fn under_truth(decides: Option<Kind>, kind: Option<Kind>) -> Option<Kind>
     ensures { result ≡ under_truth decides kind }
 {
-    if of_kind(decides, Kind::Truth) {
+    if decides == Some(Kind::Truth) {
         kind
     } else {
         None

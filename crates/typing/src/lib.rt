@@ -4,5 +4,6 @@
 pub mod clocks;
 pub mod kinds;
 pub mod part;
+mod shared;
 mod waiting;
 pub mod walk;

@@ -2,27 +2,21 @@ ghost use Rattle.std.specs.Prelude.{◌≡◌};
 ghost use Rattle.rules.specs.Views.{node_of};
 ghost use Rattle.typing.specs.Parts.{flow_part, constant_part, unary_part, binary_part, when_part, merge_part, choice_part};
 
-use crate::clocks::{flow_clock, merge_clock, shared_clock, when_clock};
-use crate::kinds::{binary_kind, flow_kind, shared_kind, unary_kind, under_truth};
+use crate::clocks::{flow_clock, merge_clock, when_clock};
+use crate::kinds::{binary_kind, flow_kind, unary_kind, under_truth};
+use crate::shared::shared;
 use rules::view::NodeView;
 use syntax::cell::UnaryOp;
 use syntax::header::Kind;
 
 // What is known of an expression that waits for its operation: whether it is a merge or an if, and so may not
 // stand inside a plain expression, and the kind and clock that it has, if it has them.
-#[derive(Clone, Copy)]
+#[derive(Clone, Copy, Default)]
 pub struct Part {
     pub control: bool,
     pub kind: Option<Kind>,
     pub clock: Option<usize>,
 }
-
-// What fills an array of parts.
-pub const NO_PART: Part = Part {
-    control: false,
-    kind: None,
-    clock: None,
-};
 
 impl Part {
     pub fn of_flow(node: &NodeView<'_>, flow: u8) -> Part
@@ -62,7 +56,7 @@ impl Part {
         Part {
             control: false,
             kind: binary_kind(code, a.kind, b.kind),
-            clock: shared_clock(a.clock, b.clock),
+            clock: shared(a.clock, b.clock),
         }
     }
 
@@ -83,7 +77,7 @@ impl Part {
     {
         Part {
             control: true,
-            kind: under_truth(Some(flow_kind(node, flow)), shared_kind(a.kind, b.kind)),
+            kind: under_truth(Some(flow_kind(node, flow)), shared(a.kind, b.kind)),
             clock: merge_clock(node, flow, a.clock, b.clock),
         }
     }
@@ -94,8 +88,8 @@ impl Part {
     {
         Part {
             control: true,
-            kind: under_truth(condition.kind, shared_kind(a.kind, b.kind)),
-            clock: shared_clock(condition.clock, shared_clock(a.clock, b.clock)),
+            kind: under_truth(condition.kind, shared(a.kind, b.kind)),
+            clock: shared(condition.clock, shared(a.clock, b.clock)),
         }
     }
 }

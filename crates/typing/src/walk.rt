@@ -51,6 +51,7 @@ fn step(node: &NodeView<'_>, cell: Cell, waiting: &mut Waiting) -> Option<()>
 }
 
 // What the cells list, taken one by one: nothing where they list no tree, or more than 8 parts would wait.
+#[tactic(auto, using(crate::proofs::Runs::runs))]
 pub fn part_of(node: &NodeView<'_>, cells: &[Cell]) -> Option<Part>
     ensures { result ≡ option_map (part_of (node_of node.now)) (tree_of cells.now) }
 {
@@ -61,34 +62,21 @@ pub fn part_of(node: &NodeView<'_>, cells: &[Cell]) -> Option<Part>
     waiting.alone()
 }
 
-// The kind and the clock of what the cells list.
-pub fn typed(node: &NodeView<'_>, cells: &[Cell]) -> (Option<Kind>, Option<usize>)
-    ensures { result ≡ (kind_of (node_of node.now) (tree_of cells.now), clock_of (node_of node.now) (tree_of cells.now)) }
-{
-    match part_of(node, cells) {
-        Some(part) => (part.kind, part.clock),
-        None => (None, None),
-    }
-}
-
 pub fn kind_of(node: &NodeView<'_>, cells: &[Cell]) -> Option<Kind>
     ensures { result ≡ kind_of (node_of node.now) (tree_of cells.now) }
 {
-    typed(node, cells).0
+    part_of(node, cells)?.kind
 }
 
 pub fn clock_of(node: &NodeView<'_>, cells: &[Cell]) -> Option<usize>
     ensures { result ≡ clock_of (node_of node.now) (tree_of cells.now) }
 {
-    typed(node, cells).1
+    part_of(node, cells)?.clock
 }
 
 // Whether the cells list a tree that is no merge and no if.
 pub fn is_plain(node: &NodeView<'_>, cells: &[Cell]) -> bool
     ensures { result ≡ is_exp (tree_of cells.now) }
 {
-    match part_of(node, cells) {
-        Some(part) => !part.control,
-        None => false,
-    }
+    part_of(node, cells).is_some_and(|part| !part.control)
 }

@@ -1,34 +1,19 @@
-ghost use Rattle.std.specs.Prelude.{◌≡◌, ℕ, ◌≤◌, [], length, take, Ok, slice_index_or};
+ghost use Rattle.std.specs.Prelude.{◌≡◌, ◌≤◌, [], length, Ok};
 ghost use Rattle.syntax.specs.Decoder.{decode_into};
 ghost use Rattle.syntax.specs.Encoder.{encode};
-ghost use Rattle.layout.specs.Blanks.{blank_cell};
 ghost use Rattle.layout.specs.Layout.{expression_in};
 ghost use Rattle.layout.specs.Held.{Holds, block_in, read_answer, read_block, write_answer, write_bytes};
 
 use crate::rows::Rows;
-use layout::node::{BLANK_NODE, Node, Span};
-use layout::parts::{counted, expression};
+use arrayvec::ArrayVec;
+use layout::node::{Node, Span};
+use layout::parts::expression;
 use layout::store::{BLANK_CELL, CellStore};
 use layout::table::Table;
 use reading::table as read_table;
 use syntax::cell::Cell;
 use syntax::fault::{ReadFault, WriteFault};
 use writing::table as write_table;
-
-fn blank_all(cells: &mut [Cell])
-    ensures { (i : ℕ) → slice_index_or cells.new i blank_cell ≡ blank_cell }
-{
-    for i in 0..cells.len() {
-        cells[i] = BLANK_CELL;
-    }
-}
-
-fn table_nodes<'a>(table: &'a Table<'_>) -> &'a [Node]
-    ensures part { result.now ≡ take table.now.count table.now.nodes }
-    ensures few { length result.now ≤ 8 }
-{
-    counted(&table.nodes, table.count)
-}
 
 impl<'m> Rows<'m> {
     // Blank rows over lent cells, all of which are blanked.
@@ -37,11 +22,10 @@ impl<'m> Rows<'m> {
         ensures stands { block_in result.table ≡ [] }
         ensures long { length result.table.store.cells.now ≡ length cells.old }
     {
-        blank_all(cells);
+        cells.fill(BLANK_CELL);
         Rows {
             table: Table {
-                count: 0,
-                nodes: [BLANK_NODE; 8],
+                nodes: ArrayVec::new(),
                 store: CellStore { cells, used: 0 },
             },
         }
@@ -68,10 +52,10 @@ impl<'m> Rows<'m> {
 
     // The nodes of the block; none where the rows are blank.
     pub fn nodes(&self) -> &[Node]
-        ensures part { result.now ≡ take self.now.table.count self.now.table.nodes }
+        ensures part { result.now ≡ self.now.table.nodes.items }
         ensures few { length result.now ≤ 8 }
     {
-        table_nodes(&self.table)
+        &self.table.nodes
     }
 
     // The cells of all expressions, and what is lent past them.

@@ -1,29 +1,34 @@
-ghost use Rattle.std.specs.Prelude.{◌≡◌, ◌+◌, ◌<◌, ◌≤◌, cond, IfOk, OnOk};
-ghost use Rattle.syntax.specs.Decoder.{cell_parts, read_cell, read_flow, read_clock, read_constant, read_form_number, read_count, read_mark, kind_of};
-ghost use Rattle.reading.specs.Storing.{Reads, Moved};
+ghost use Rattle.std.specs.Prelude.{◌≡◌, ◌+◌, ◌≤◌, IfOk, OnOk};
+ghost use Rattle.syntax.specs.Decoder.{cell_parts, read_cell, read_constant, read_form_number, read_count, read_mark};
+ghost use Rattle.reading.specs.Storing.{Takes, TakesAs, form_code};
 
-use crate::reader::BitReader;
+use crate::reader::BlockReader;
 use syntax::cell::{Cell, UnaryOp};
 use syntax::fault::ReadFault;
-use syntax::header::{Constant, DerivedClock, Flow, Kind};
+use syntax::header::Constant;
 
-impl BitReader<'_> {
+// How an equation goes on after its clock.
+#[derive(Clone, Copy, Debug, PartialEq, Eq)]
+pub enum FormKind {
+    Plain,
+    Delay,
+    Call,
+}
+
+// A number with no meaning is refused where it is read: a method that took the test as a closure would be no
+// plainer, since its contract is longer than the tests.
+impl BlockReader<'_, '_, '_> {
     // A cell, by its operator.
     fn cell_parts(&mut self) -> Result<Cell, ReadFault>
-        ensures reads { Reads cell_parts self.old self.new result }
-        ensures moved { Moved self.old self.new }
+        ensures takes { Takes cell_parts self.old self.new result }
         ensures four { OnOk result (self.old.at + 4 ≤ self.new.at) }
     {
         let at = self.at;
         match self.take(4)? {
             0 => Ok(Cell::Flow(self.take(5)? as u8)),
-            1 => Ok(Cell::Truth(self.take(1)? == 1)),
+            1 => Ok(Cell::Truth(self.bit()?)),
             2 => Ok(Cell::Number(self.take(32)?.cast_signed())),
-            3 => Ok(Cell::Unary(if self.take(1)? == 0 {
-                UnaryOp::Not
-            } else {
-                UnaryOp::Minus
-            })),
+            3 => Ok(Cell::Unary(UnaryOp::from(self.bit()?))),
             4 => {
                 let from = self.at;
                 let n = self.take(4)?;
@@ -34,9 +39,9 @@ impl BitReader<'_> {
                 }
             }
             5 => {
-                let n = self.take(5)?;
-                let s = self.take(1)?;
-                Ok(Cell::When(n as u8, s == 1))
+                let flow = self.take(5)? as u8;
+                let side = self.bit()?;
+                Ok(Cell::When(flow, side))
             }
             6 => Ok(Cell::Merge(self.take(5)? as u8)),
             7 => Ok(Cell::If),
@@ -44,69 +49,48 @@ impl BitReader<'_> {
         }
     }
 
+    #[tactic(auto, unfolding(syntax::specs::Decoder::read_cell))]
     pub fn cell(&mut self) -> Result<Cell, ReadFault>
-        ensures reads { Reads read_cell self.old self.new result }
-        ensures moved { Moved self.old self.new }
+        ensures takes { Takes read_cell self.old self.new result }
         ensures four { OnOk result (self.old.at + 4 ≤ self.new.at) }
     {
         self.cell_parts()
     }
 
-    pub fn flow(&mut self) -> Result<Flow, ReadFault>
-        ensures reads { Reads read_flow self.old self.new result }
-        ensures moved { Moved self.old self.new }
-    {
-        let kind = kind_by(self.take(1)?);
-        let clock = self.take(3)? as u8;
-        Ok(Flow { kind, clock })
-    }
-
-    pub fn derived_clock(&mut self) -> Result<DerivedClock, ReadFault>
-        ensures reads { Reads read_clock self.old self.new result }
-        ensures moved { Moved self.old self.new }
-    {
-        let parent = self.take(3)? as u8;
-        let flow = self.take(5)? as u8;
-        let side = self.take(1)? == 1;
-        Ok(DerivedClock { parent, flow, side })
-    }
-
     // The first value of a delay.
+    #[tactic(auto, unfolding(syntax::specs::Decoder::read_constant))]
     pub fn constant(&mut self) -> Result<Constant, ReadFault>
-        ensures reads { Reads read_constant self.old self.new result }
-        ensures moved { Moved self.old self.new }
+        ensures { Takes read_constant self.old self.new result }
     {
-        if self.take(1)? == 0 {
-            Ok(Constant::Truth(self.take(1)? == 1))
-        } else {
+        if self.bit()? {
             Ok(Constant::Number(self.take(32)?.cast_signed()))
+        } else {
+            Ok(Constant::Truth(self.bit()?))
         }
     }
 
-    // The number of an equation's form, 0 to 2.
-    pub fn form_number(&mut self) -> Result<u8, ReadFault>
-        ensures reads { Reads read_form_number self.old self.new result }
-        ensures bound { IfOk result (λ n. n < 3) }
-        ensures moved { Moved self.old self.new }
+    #[tactic(auto, unfolding(syntax::specs::Decoder::read_form_number))]
+    pub fn form_kind(&mut self) -> Result<FormKind, ReadFault>
+        ensures { TakesAs form_code read_form_number self.old self.new result }
     {
         let at = self.at;
-        let n = self.take(2)?;
-        if n < 3 {
-            Ok(n as u8)
-        } else {
-            Err(ReadFault::NoMeaning { bit: at })
+        match self.take(2)? {
+            0 => Ok(FormKind::Plain),
+            1 => Ok(FormKind::Delay),
+            2 => Ok(FormKind::Call),
+            _ => Err(ReadFault::NoMeaning { bit: at }),
         }
     }
 
     // How many equations a node has, 1 to 23.
+    #[tactic(auto, unfolding(syntax::specs::Decoder::read_count))]
     pub fn equation_count(&mut self) -> Result<u8, ReadFault>
-        ensures reads { Reads read_count self.old self.new result }
+        ensures takes { Takes read_count self.old self.new result }
         ensures bound { IfOk result (λ n. n ≤ 23) }
-        ensures moved { Moved self.old self.new }
     {
         let at = self.at;
         let n = self.take(5)?;
-        if 1 <= n && n <= 23 {
+        if (1..=23).contains(&n) {
             Ok(n as u8)
         } else {
             Err(ReadFault::NoMeaning { bit: at })
@@ -114,22 +98,15 @@ impl BitReader<'_> {
     }
 
     // The mark by which a block begins.
-    pub fn mark(&mut self) -> Result<u32, ReadFault>
-        ensures reads { Reads read_mark self.old self.new result }
-        ensures moved { Moved self.old self.new }
+    #[tactic(auto, unfolding(syntax::specs::Decoder::read_mark))]
+    pub fn mark(&mut self) -> Result<(), ReadFault>
+        ensures { TakesAs (λ _. 183) read_mark self.old self.new result }
     {
         let at = self.at;
-        let n = self.take(8)?;
-        if n == 0xb7 {
-            Ok(n)
+        if self.take(8)? == 0xb7 {
+            Ok(())
         } else {
             Err(ReadFault::NoMeaning { bit: at })
         }
     }
-}
-
-fn kind_by(n: u32) -> Kind
-    ensures { result ≡ kind_of n }
-{
-    if n == 0 { Kind::Truth } else { Kind::Number }
 }

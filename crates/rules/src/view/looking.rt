@@ -1,12 +1,12 @@
 ghost use Rattle.std.specs.Prelude.{◌≡◌, ◌-◌, length, slice_index_or};
+ghost use Rattle.std.specs.Option.{option_to_list};
 ghost use Rattle.layout.specs.Blanks.{blank_flow, blank_clock};
 ghost use Rattle.layout.specs.Layout.{node_in};
-ghost use Rattle.rules.specs.Names.{cell_flows, node_at, one_flow};
+ghost use Rattle.rules.specs.Names.{cell_flows, node_at};
 ghost use Rattle.rules.specs.Views.{node_of, block_of};
 
 use crate::view::{BlockView, NodeView};
-use layout::node::{BLANK_CLOCK, BLANK_FLOW, Node};
-use layout::parts::{counted, front};
+use layout::node::Node;
 use syntax::cell::Cell;
 use syntax::header::{DerivedClock, Flow};
 
@@ -14,11 +14,7 @@ use syntax::header::{DerivedClock, Flow};
 pub fn flow_at(flows: &[Flow], number: usize) -> Flow
     ensures { result ≡ slice_index_or flows.now number blank_flow }
 {
-    if number < flows.len() {
-        flows[number]
-    } else {
-        BLANK_FLOW
-    }
+    flows.get(number).copied().unwrap_or_default()
 }
 
 // A derived clock by its number, from 1 on; a blank one where there is none.
@@ -26,16 +22,12 @@ pub fn clock_at(clocks: &[DerivedClock], number: usize) -> DerivedClock
     ensures { result ≡ slice_index_or clocks.now (number - 1) blank_clock }
 {
     let i = number.saturating_sub(1);
-    if i < clocks.len() {
-        clocks[i]
-    } else {
-        BLANK_CLOCK
-    }
+    clocks.get(i).copied().unwrap_or_default()
 }
 
 // The flow that a cell names, if it names one.
 pub fn cell_flow(cell: Cell) -> Option<u8>
-    ensures { one_flow result ≡ cell_flows cell }
+    ensures { option_to_list result ≡ cell_flows cell }
 {
     match cell {
         Cell::Flow(flow) | Cell::When(flow, _) | Cell::Merge(flow) => Some(flow),
@@ -47,32 +39,32 @@ pub fn cell_flow(cell: Cell) -> Option<u8>
 pub fn view_of<'a>(node: &'a Node, cells: &'a [Cell]) -> NodeView<'a>
     ensures { node_of result ≡ node_in cells.now node.now }
 {
-    let count = usize::from(node.inputs) + usize::from(node.outputs) + usize::from(node.locals);
     NodeView {
         inputs: node.inputs,
         outputs: node.outputs,
         locals: node.locals,
-        flows: front(&node.flows, count),
-        clocks: counted(&node.clocks.rows, node.clocks.count),
-        equations: counted(&node.equations.rows, node.equations.count),
+        flows: &node.flows,
+        clocks: &node.clocks,
+        equations: &node.equations,
         cells,
     }
 }
 
 // A node by its number; one with no rows where there is none.
+#[tactic(auto, unfolding(crate::specs::Views::block_of))]
 pub fn node_view<'a>(block: &BlockView<'a>, number: usize) -> NodeView<'a>
     ensures { node_of result ≡ node_at (block_of block.now) number }
 {
-    if number < block.nodes.len() {
-        return view_of(&block.nodes[number], block.cells);
-    }
-    NodeView {
-        inputs: 0,
-        outputs: 0,
-        locals: 0,
-        flows: &[],
-        clocks: &[],
-        equations: &[],
-        cells: block.cells,
+    match block.nodes.get(number) {
+        Some(node) => view_of(node, block.cells),
+        None => NodeView {
+            inputs: 0,
+            outputs: 0,
+            locals: 0,
+            flows: &[],
+            clocks: &[],
+            equations: &[],
+            cells: block.cells,
+        },
     }
 }

@@ -1,36 +1,51 @@
-use crate::listing::clocks::chain;
-use crate::listing::lists::add_item;
+use crate::listing::clocks::Chain;
 use crate::listing::names::flow_name;
+use crate::listing::node::NodeListing;
 use layout::node::Node;
-use std::alloc::{AllocError, Global};
-use syntax::header::{Flow, Kind};
+use std::alloc::AllocError;
+use std::fmt;
+use syntax::header::Flow;
 
-fn kind_word(kind: Kind) -> &'static str {
-    match kind {
-        Kind::Truth => "bool",
-        Kind::Number => "int",
+// A flow of a node, with its number there, as it is declared.
+#[derive(Clone, Copy)]
+struct Declaration<'a> {
+    node: &'a Node,
+    number: usize,
+    flow: Flow,
+}
+
+impl fmt::Display for Declaration<'_> {
+    fn fmt<W: fmt::Write>(&self, f: &mut fmt::Formatter<W>) -> fmt::Result {
+        let name = flow_name(self.node, self.number);
+        let kind = self.flow.kind;
+        let chain = Chain {
+            node: self.node,
+            clock: self.flow.clock,
+        };
+        write!(f, "{name}: {kind}{chain}")
     }
 }
 
-fn declaration(heap: Global, node: &Node, number: usize, flow: Flow) -> Result<String, AllocError> {
-    let name = flow_name(node, number);
-    let kind = kind_word(flow.kind);
-    let clock = chain(heap, node, flow.clock)?;
-    format!(in heap; "{name}: {kind}{clock}")
-}
-
-// The declarations of the flows from `from` on and before `end`.
-pub fn declarations(
-    heap: Global,
-    node: &Node,
-    from: usize,
-    end: usize,
-) -> Result<String, AllocError> {
-    let mut list = String::new(heap);
-    for (number, flow) in node.flows.iter().enumerate() {
-        if from <= number && number < end {
-            add_item(&mut list, declaration(heap, node, number, *flow)?)?;
-        }
+impl NodeListing<'_, '_> {
+    // The declarations of `count` flows from `from` on.
+    pub fn declarations(&self, from: usize, count: usize) -> Result<String, AllocError> {
+        let node = self.node;
+        let heap = self.heap;
+        let declarations: Vec<String> = node
+            .flows
+            .iter()
+            .enumerate()
+            .skip(from)
+            .take(count)
+            .map(|(number, flow)| {
+                Declaration {
+                    node,
+                    number,
+                    flow: *flow,
+                }
+                .to_string(heap)
+            })
+            .try_collect(heap)?;
+        declarations.join(heap, ", ")
     }
-    Ok(list)
 }

@@ -1,91 +1,54 @@
-use crate::listing::expressions::expression_text;
-use crate::listing::lists::add_item;
-use crate::listing::names::{flow_name, node_name};
-use block::rows::Rows;
-use layout::node::{Arguments, Equation, Form, Node, Results};
-use std::alloc::{AllocError, Global};
-use syntax::cell::Cell;
+use crate::listing::node::NodeListing;
+use layout::node::{Equation, Form, Span};
+use std::alloc::AllocError;
 use syntax::header::Constant;
 
-fn constant_text(heap: Global, value: Constant) -> Result<String, AllocError> {
-    match value {
-        Constant::Truth(b) => b.to_string(heap),
-        Constant::Number(n) => n.to_string(heap),
+impl NodeListing<'_, '_> {
+    fn results(&self, results: &[u8]) -> Result<String, AllocError> {
+        let names: Vec<String> = results
+            .iter()
+            .map(|flow| self.flow_name(*flow).to_string(self.heap))
+            .try_collect(self.heap)?;
+        names.join(self.heap, ", ")
     }
-}
 
-fn results_text(heap: Global, node: &Node, results: &Results) -> Result<String, AllocError> {
-    let mut list = String::new(heap);
-    for flow in results.flows.iter().take(usize::from(results.count)) {
-        let name = flow_name(node, usize::from(*flow));
-        add_item(&mut list, name.to_string(heap)?)?;
+    fn arguments(&self, arguments: &[Span]) -> Result<String, AllocError> {
+        let expressions: Vec<String> = arguments
+            .iter()
+            .map(|span| self.expression(*span))
+            .try_collect(self.heap)?;
+        expressions.join(self.heap, ", ")
     }
-    Ok(list)
-}
 
-fn arguments_text(
-    heap: Global,
-    rows: &Rows<'_>,
-    node: &Node,
-    arguments: &Arguments,
-) -> Result<String, AllocError> {
-    let mut list = String::new(heap);
-    for span in arguments.spans.iter().take(usize::from(arguments.count)) {
-        let cells = rows.expression(*span);
-        add_item(&mut list, expression_text(heap, node, cells)?)?;
+    fn plain(&self, flow: u8, cells: Span) -> Result<String, AllocError> {
+        let name = self.flow_name(flow);
+        let value = self.expression(cells)?;
+        format!(in self.heap; "{name} = {value};")
     }
-    Ok(list)
-}
 
-fn plain_text(heap: Global, node: &Node, flow: u8, cells: &[Cell]) -> Result<String, AllocError> {
-    let name = flow_name(node, usize::from(flow));
-    let text = expression_text(heap, node, cells)?;
-    format!(in heap; "{name} = {text};")
-}
+    fn delay(&self, flow: u8, first: Constant, cells: Span) -> Result<String, AllocError> {
+        let name = self.flow_name(flow);
+        let later = self.expression(cells)?;
+        format!(in self.heap; "{name} = {first} fby {later};")
+    }
 
-fn delay_text(
-    heap: Global,
-    node: &Node,
-    flow: u8,
-    first: Constant,
-    cells: &[Cell],
-) -> Result<String, AllocError> {
-    let name = flow_name(node, usize::from(flow));
-    let value = constant_text(heap, first)?;
-    let text = expression_text(heap, node, cells)?;
-    format!(in heap; "{name} = {value} fby {text};")
-}
+    fn call(&self, callee: u8, results: &[u8], arguments: &[Span]) -> Result<String, AllocError> {
+        let name = self.node_name(usize::from(callee));
+        let results = self.results(results)?;
+        let arguments = self.arguments(arguments)?;
+        format!(in self.heap; "({results}) = {name}({arguments});")
+    }
 
-fn call_text(
-    heap: Global,
-    rows: &Rows<'_>,
-    node: &Node,
-    callee: u8,
-    results: &Results,
-    arguments: &Arguments,
-) -> Result<String, AllocError> {
-    let name = node_name(rows.nodes().len(), usize::from(callee));
-    let given = results_text(heap, node, results)?;
-    let taken = arguments_text(heap, rows, node, arguments)?;
-    format!(in heap; "({given}) = {name}({taken});")
-}
-
-// An equation on its line.
-pub fn equation_text(
-    heap: Global,
-    rows: &Rows<'_>,
-    node: &Node,
-    equation: &Equation,
-) -> Result<String, AllocError> {
-    match &equation.form {
-        Form::Plain { flow, cells } => plain_text(heap, node, *flow, rows.expression(*cells)),
-        Form::Delay { flow, first, cells } => {
-            delay_text(heap, node, *flow, *first, rows.expression(*cells))
+    // An equation on its line.
+    pub fn equation(&self, equation: &Equation) -> Result<String, AllocError> {
+        match &equation.form {
+            Form::Plain { flow, cells } => self.plain(*flow, *cells),
+            Form::Delay { flow, first, cells } => self.delay(*flow, *first, *cells),
+            Form::Call {
+                node,
+                results,
+                arguments,
+            } => self.call(*node, results, arguments),
         }
-        Form::Call {
-            node: callee,
-            results,
-            arguments,
-        } => call_text(heap, rows, node, *callee, results, arguments),
     }
 }

@@ -1,111 +1,94 @@
-use crate::listing::names::{Name, flow_name};
-use crate::listing::words::{binary_word, cell_text};
-use layout::node::Node;
-use std::alloc::{AllocError, Global};
-use syntax::cell::{Cell, UnaryOp};
+use crate::listing::cells::{Shown, binary_word};
+use crate::listing::node::NodeListing;
+use layout::node::Span;
+use std::alloc::AllocError;
+use std::fmt::Write;
+use syntax::cell::Cell;
 
-fn unary(heap: Global, parts: &mut Vec<String>, op: UnaryOp) -> Result<Option<String>, AllocError> {
-    let Some(a) = parts.pop() else {
-        return Ok(None);
-    };
-    let word = match op {
-        UnaryOp::Not => "not",
-        UnaryOp::Minus => "-",
-    };
-    Ok(Some(format!(in heap; "({word} {a})")?))
+// Why cells have no text as an expression.
+#[derive(Debug, Drop)]
+enum InfixFault {
+    NoExpression,
+    OutOfMemory(AllocError),
 }
 
-fn binary(heap: Global, parts: &mut Vec<String>, code: u8) -> Result<Option<String>, AllocError> {
-    let Some(b) = parts.pop() else {
-        return Ok(None);
-    };
-    let Some(a) = parts.pop() else {
-        return Ok(None);
-    };
-    let word = binary_word(code);
-    Ok(Some(format!(in heap; "({a} {word} {b})")?))
-}
-
-fn when(
-    heap: Global,
-    parts: &mut Vec<String>,
-    flow: Name,
-    side: bool,
-) -> Result<Option<String>, AllocError> {
-    let Some(a) = parts.pop() else {
-        return Ok(None);
-    };
-    Ok(Some(format!(in heap; "({a} when {flow} = {side})")?))
-}
-
-fn merge(heap: Global, parts: &mut Vec<String>, flow: Name) -> Result<Option<String>, AllocError> {
-    let Some(b) = parts.pop() else {
-        return Ok(None);
-    };
-    let Some(a) = parts.pop() else {
-        return Ok(None);
-    };
-    Ok(Some(format!(in heap; "(merge {flow} {a} {b})")?))
-}
-
-fn choice(heap: Global, parts: &mut Vec<String>) -> Result<Option<String>, AllocError> {
-    let Some(b) = parts.pop() else {
-        return Ok(None);
-    };
-    let Some(a) = parts.pop() else {
-        return Ok(None);
-    };
-    let Some(c) = parts.pop() else {
-        return Ok(None);
-    };
-    Ok(Some(format!(in heap; "(if {c} then {a} else {b})")?))
-}
-
-// The text of a cell, which takes its parts from the last of `parts`; `None` where they are too few.
-fn with_parts(
-    heap: Global,
-    node: &Node,
-    parts: &mut Vec<String>,
-    cell: Cell,
-) -> Result<Option<String>, AllocError> {
-    match cell {
-        Cell::Flow(_) | Cell::Truth(_) | Cell::Number(_) => Ok(Some(cell_text(heap, node, cell)?)),
-        Cell::Unary(op) => unary(heap, parts, op),
-        Cell::Binary(code) => binary(heap, parts, code),
-        Cell::When(n, side) => when(heap, parts, flow_name(node, usize::from(n)), side),
-        Cell::Merge(n) => merge(heap, parts, flow_name(node, usize::from(n))),
-        Cell::If => choice(heap, parts),
+impl From<AllocError> for InfixFault {
+    fn from(e: AllocError) -> InfixFault {
+        InfixFault::OutOfMemory(e)
     }
 }
 
-// The text of cells that are an expression; `None` where they are not.
-fn infix(heap: Global, node: &Node, cells: &[Cell]) -> Result<Option<String>, AllocError> {
-    let mut parts = Vec::new(heap);
-    for cell in cells {
-        let Some(text) = with_parts(heap, node, &mut parts, *cell)? else {
-            return Ok(None);
+// The last N parts, in order, which are taken off.
+fn take_last<const N: usize>(parts: &mut Vec<String>) -> Result<[String; N], InfixFault> {
+    let rest = parts.len().checked_sub(N).ok_or(InfixFault::NoExpression)?;
+    let last = parts.split_off(rest)?;
+    Ok(<[String; N]>::try_from(last).unwrap())
+}
+
+impl NodeListing<'_, '_> {
+    // The text of a cell with its parts, which it takes from the last of `parts`.
+    fn with_parts(&self, parts: &mut Vec<String>, cell: Cell) -> Result<String, InfixFault> {
+        let heap = self.heap;
+        let text = match cell {
+            Cell::Flow(_) | Cell::Truth(_) | Cell::Number(_) => self.shown(cell).to_string(heap)?,
+            Cell::Unary(op) => {
+                let [a] = take_last::<1>(parts)?;
+                format!(in heap; "({op} {a})")?
+            }
+            Cell::Binary(code) => {
+                let [a, b] = take_last::<2>(parts)?;
+                format!(in heap; "({a} {} {b})", binary_word(code))?
+            }
+            Cell::When(flow, side) => {
+                let [a] = take_last::<1>(parts)?;
+                format!(in heap; "({a} when {} = {side})", self.flow_name(flow))?
+            }
+            Cell::Merge(flow) => {
+                let [a, b] = take_last::<2>(parts)?;
+                format!(in heap; "(merge {} {a} {b})", self.flow_name(flow))?
+            }
+            Cell::If => {
+                let [c, a, b] = take_last::<3>(parts)?;
+                format!(in heap; "(if {c} then {a} else {b})")?
+            }
         };
-        parts.push(text)?;
+        Ok(text)
     }
-    let whole = parts.pop();
-    Ok(if parts.is_empty() { whole } else { None })
-}
 
-// Cells that are no expression, one after another.
-fn postfix(heap: Global, node: &Node, cells: &[Cell]) -> Result<String, AllocError> {
-    let mut text = String::new(heap);
-    for cell in cells {
-        if !text.is_empty() {
-            text.push(' ')?;
+    // The text of cells that are an expression, which is the one part left at their end.
+    fn infix(&self, cells: &[Cell]) -> Result<String, InfixFault> {
+        let mut parts = Vec::new(self.heap);
+        for cell in cells {
+            let text = self.with_parts(&mut parts, *cell)?;
+            parts.push(text).map_err(AllocError::from)?;
         }
-        text.push_str(cell_text(heap, node, *cell)?.as_str())?;
+        let [whole] = <[String; 1]>::try_from(parts).map_err(|_| InfixFault::NoExpression)?;
+        Ok(whole)
     }
-    format!(in heap; "?cells[{text}]")
-}
 
-pub fn expression_text(heap: Global, node: &Node, cells: &[Cell]) -> Result<String, AllocError> {
-    match infix(heap, node, cells)? {
-        Some(text) => Ok(text),
-        None => postfix(heap, node, cells),
+    fn shown(&self, cell: Cell) -> Shown<'_> {
+        Shown {
+            node: self.node,
+            cell,
+        }
+    }
+
+    // Cells that are no expression, one after another.
+    fn postfix(&self, cells: &[Cell]) -> Result<String, AllocError> {
+        let words: Vec<String> = cells
+            .iter()
+            .map(|cell| self.shown(*cell).to_string(self.heap))
+            .try_collect(self.heap)?;
+        let words = words.join(self.heap, " ")?;
+        format!(in self.heap; "?cells[{words}]")
+    }
+
+    pub fn expression(&self, span: Span) -> Result<String, AllocError> {
+        let cells = self.rows.expression(span);
+        match self.infix(cells) {
+            Ok(text) => Ok(text),
+            Err(InfixFault::NoExpression) => self.postfix(cells),
+            Err(InfixFault::OutOfMemory(e)) => Err(e),
+        }
     }
 }

@@ -54,12 +54,11 @@ pub fn flow_name(node: &Node, number: usize) -> Name
 {
     let outputs = usize::from(node.inputs);
     let locals = outputs + usize::from(node.outputs);
-    let end = locals + usize::from(node.locals);
     if number < outputs {
         Name::Input(number)
     } else if number < locals {
         Name::Output(number - outputs)
-    } else if number < end {
+    } else if number - locals < usize::from(node.locals) {
         Name::Local(number - locals)
     } else {
         Name::NoFlow(number)

@@ -2,16 +2,16 @@ ghost use Rattle.std.specs.Prelude.{◌≡◌, []};
 ghost use Rattle.typing.specs.Stack.{Gives, push, take_part, take_plain, alone_part};
 ghost use Rattle.typing.specs.Waiting.{waiting_in};
 
-use crate::part::{NO_PART, Part};
-use crate::waiting::{MOST_WAITING, Waiting};
+use crate::part::Part;
+use crate::waiting::Waiting;
+use arrayvec::ArrayVec;
 
 impl Waiting {
     pub fn new() -> Waiting
         ensures { waiting_in result ≡ [] }
     {
         Waiting {
-            parts: [NO_PART; MOST_WAITING],
-            count: 0,
+            parts: ArrayVec::new(),
         }
     }
 
@@ -19,40 +19,29 @@ impl Waiting {
     pub fn push(&mut self, part: Part) -> Option<()>
         ensures { Gives (push part (waiting_in self.old)) result (waiting_in self.new) }
     {
-        if self.count >= MOST_WAITING {
-            return None;
-        }
-        self.parts[self.count] = part;
-        self.count += 1;
-        Some(())
+        self.parts.try_push(part).ok()
     }
 
     pub fn take(&mut self) -> Option<Part>
         ensures { Gives (take_part (waiting_in self.old)) result (waiting_in self.new) }
     {
-        if self.count == 0 {
-            return None;
-        }
-        self.count -= 1;
-        Some(self.parts[self.count])
+        self.parts.pop()
     }
 
     // Refuses a merge and an if.
     pub fn take_plain(&mut self) -> Option<Part>
         ensures { Gives (take_plain (waiting_in self.old)) result (waiting_in self.new) }
     {
-        let part = self.take()?;
-        if part.control { None } else { Some(part) }
+        self.take().filter(|part| !part.control)
     }
 
     // The part that waits alone.
     pub fn alone(&self) -> Option<Part>
         ensures { result ≡ alone_part (waiting_in self.now) }
     {
-        if self.count == 1 {
-            Some(self.parts[0])
-        } else {
-            None
+        match self.parts.as_slice() {
+            [part] => Some(*part),
+            _ => None,
         }
     }
 }

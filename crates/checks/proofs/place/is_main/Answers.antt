@@ -1,13 +1,12 @@
-use Rattle.std.proofs.Common.{length}
-use Rattle.checks.proofs.Places.{last-below, not_last, nodes_of}
+use Rattle.std.proofs.Common.{arith}
+use Rattle.std.proofs.lemmas.Bool.Decides.{nat_tests}
+use Rattle.std.proofs.lemmas.Grind.{common_steps}
+use Rattle.checks.proofs.Places.{nodes_of}
 use Rattle.checks.proofs.place.is_main.Goals as goal
 
-pub returns-then-k-count : goal.returns-then-k-count
-returns-then-k-count c =
-    let b = c.args.block.now in
-    last-below c.args.k (length b.nodes.now) _ (nodes_of b) c.if-k-count.true
-
-pub returns-else-k-count : goal.returns-else-k-count
-returns-else-k-count c =
-    let b = c.args.block.now in
-    not_last c.args.k (length b.nodes.now) _ (nodes_of b) c.if-k-count.false
+pub returns : goal.returns
+returns c =
+    let e = nodes_of c.args.block.now in
+    let t = c.checked_add.ensures in
+    let u = c.eq.ensures in
+    grind (arith, common_steps, nat_tests)

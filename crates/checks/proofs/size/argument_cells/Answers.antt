@@ -1,15 +1,21 @@
-use Rattle.std.proofs.Common.{map, length, sym, ap, ◌∙◌}
+use Rattle.std.proofs.Common.{◌≡◌, ◌+◌, map, ◌∙◌, length, sym, ap, arith}
+use Rattle.std.proofs.iter.runs.Made.{chains}
+use Rattle.std.proofs.lemmas.Grind.{common_steps}
+use Rattle.std.specs.List.{fold}
+use Rattle.std.proofs.lemmas.List.Folds.{fold-map}
+use Rattle.syntax.specs.Syntax.{Expression}
+use Rattle.layout.specs.declared.node.Span.{Span}
 use Rattle.layout.specs.Layout.{expression_in}
-use Rattle.checks.specs.Parts.{spans_in}
-use Rattle.checks.specs.Sums.{capped, total}
-use Rattle.checks.proofs.Sizing.{cells_total}
-use Rattle.checks.proofs.Totals.{total-map}
+use Rattle.checks.specs.Sums.{capped}
+use Rattle.checks.proofs.Totals.{capped_fold}
 use Rattle.checks.proofs.size.argument_cells.Goals as goal
 
 pub returns : goal.returns
 returns c =
     let cells = c.args.cells.now in
-    let spans = spans_in c.args.arguments.now in
-    c.sum_of.ensures
-    ∙ ap (λ xs. capped (total (λ s. length (expression_in cells s)) xs)) c.counted.ensures.part
-    ∙ ap capped (sym (total-map (expression_in cells) (λ e. length e) spans) ∙ cells_total (map (expression_in cells) spans))
+    let spans = c.args.arguments.now.items in
+    let worth = λ (s : Span). length (expression_in cells s) in
+    let e : c.fold.result ≡ fold (λ s n. capped (s + n)) 0 (map worth spans) = grind (arith, common_steps, chains) in
+    e
+    ∙ capped_fold worth spans
+    ∙ ap capped (sym (fold-map (λ n (x : Expression). n + length x) (expression_in cells) 0 spans))

@@ -1,30 +1,41 @@
-use Rattle.std.proofs.Common.{◌+◌, ◌<◌, length, sym, refl, ap, ◌∙◌, subst, arith, length-set}
-use Rattle.std.proofs.lemmas.List.{length-map, map-set}
+use Rattle.std.proofs.Common.{◌<◌, [], ◌∷◌, ◌++◌, get_or, length, sym, ap, ◌∙◌, arith}
+use Rattle.std.proofs.lemmas.List.{get_or-map}
 use Rattle.syntax.specs.Syntax.{NodeSyntax}
+use Rattle.layout.specs.Layout.{node_in}
+use Rattle.rules.specs.Names.{no_node}
 use Rattle.rules.specs.Size.{equations_size}
 use Rattle.rules.specs.Views.{block_of}
-use Rattle.checks.specs.Sizes.{size_in, sizes_in, capped_size}
-use Rattle.checks.proofs.Sizing.{Sizing, blank_sizes, sizing_more, sizing_all}
+use Rattle.checks.specs.Sizes.{capped_size}
 use Rattle.checks.proofs.Places.{nodes_of}
+use Rattle.checks.proofs.Sizing.{sizes_none, sizes_many, sizes_more, sizes_all}
 use Rattle.checks.proofs.size.sizes_of.Goals as goal
 
-pub loop-k-init : goal.loop-k-init
-loop-k-init c = (refl, blank_sizes (block_of c.args.block.now) 8 (record { flows = 0; cells = 0 }) refl)
+pub loop-node-init : goal.loop-node-init
+loop-node-init c = c.new-sizes.ensures ∙ sym (sizes_none (block_of c.args.block.now.view))
 
-pub loop-k-preserved : goal.loop-k-preserved
-loop-k-preserved c =
-    let b = block_of c.args.block.now in
-    let table = c.loop-k.sizes in
-    let k = c.loop-k.k in
-    let r = c.node_size.result in
-    let within : k < length b = omega (arith, nodes_of c.args.block.now, c.loop-k-test.true) in
-    let room : k < length (sizes_in table) = omega (arith, length-map table size_in, c.loop-k.invariant.0, c.requires, c.loop-k-test.true) in
-    let e = c.node_size.ensures ∙ ap (λ (n : NodeSyntax). capped_size (equations_size b (sizes_in table) n.equations)) c.node_view.ensures in (
-      length-set table k r ∙ c.loop-k.invariant.0,
-      subst (Sizing b (k + 1)) (sym (map-set size_in table k r)) (sizing_more b (sizes_in table) k (size_in r) within room e c.loop-k.invariant.1),
-    )
+pub push-requires : goal.push-requires
+push-requires c =
+    let v = c.args.block.now.view in
+    let k = c.loop-node.node-index in
+    let many = ap (λ xs. length xs) c.loop-node.invariant ∙ sizes_many (block_of v) k (omega (arith, nodes_of v, c.loop-node-test.true)) in
+    (omega arith, omega (arith, many, c.args.block.now.few, c.loop-node-test.true))
+
+pub loop-node-preserved : goal.loop-node-preserved
+unfolding block_of
+loop-node-preserved c =
+    let v = c.args.block.now.view in
+    let b = block_of v in
+    let k = c.loop-node.node-index in
+    let r = c.node_size-size.result in
+    let within : k < length b = omega (arith, nodes_of v, c.loop-node-test.true) in
+    let read = c.view_of.ensures ∙ ap (node_in v.cells.now) c.node-item.is ∙ sym (get_or-map (node_in v.cells.now) v.nodes.now k _ no_node c.loop-node-test.true) in
+    let size =
+    c.node_size-size.ensures
+    ∙ ap (λ (n : NodeSyntax). capped_size (equations_size b c.deref.result.now n.equations)) read
+    ∙ ap (λ known. capped_size (equations_size b known (get_or b k no_node).equations)) (c.deref.ensures.0 ∙ c.loop-node.invariant) in
+    c.push.ensures.items ∙ ap (λ xs. xs ++ (r ∷ [])) c.loop-node.invariant ∙ sizes_more b k r within size
 
 pub returns : goal.returns
 returns c =
-    let b = block_of c.args.block.now in
-    sizing_all b (sizes_in c.loop-k.sizes) c.loop-k.k (omega (arith, nodes_of c.args.block.now, c.loop-k-test.false)) c.loop-k.invariant.1
+    let v = c.args.block.now.view in
+    c.loop-node.invariant ∙ sizes_all (block_of v) c.loop-node.node-index (omega (arith, nodes_of v, c.loop-node-test.false))

@@ -1,8 +1,7 @@
-use Rattle.std.proofs.Common.{◌≡◌, length}
+use Rattle.std.proofs.Common.{◌≡◌}
 use Rattle.rules.specs.Views.{block_of}
-use Rattle.checks.specs.Sizes.{sizes_in}
-use Rattle.checks.proofs.Sizing.{Sizing}
+use Rattle.checks.proofs.Sizing.{sizes_below}
 use Rattle.checks.proofs.size.sizes_of.Given as goal
 
-abbrev pub invariant-loop-k : goal.invariant-loop-k
-invariant-loop-k l = (length l.sizes ≡ 8) × Sizing (block_of l.block) l.k (sizes_in l.sizes)
+abbrev pub invariant-loop-node : goal.invariant-loop-node
+invariant-loop-node l = l.sizes.items ≡ sizes_below (block_of l.block) l.node-index

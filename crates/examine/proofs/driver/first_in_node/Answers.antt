@@ -1,11 +1,24 @@
+use Rattle.std.proofs.Common.{None, Some, sym, subst}
+use Rattle.rules.specs.Examined.{First, Holds, node_places}
+use Rattle.rules.specs.Names.{node_at}
 use Rattle.rules.specs.Views.{block_of}
 use Rattle.examine.proofs.Turns.{node_stops, node_goes_on}
 use Rattle.examine.proofs.driver.first_in_node.Goals as goal
 
 pub returns-then-not-node_holds : goal.returns-then-not-node_holds
 returns-then-not-node_holds c =
-    node_stops (block_of c.args.block.now) c.args.check c.args.k c.node_view-node.result c.node_view-node.ensures _ c.node_holds.ensures c.if-not-node_holds.true
+    let made = c.by_number-at.ensures in
+    node_stops c.args.block.now.view c.args.check c.args.number c.by_number-at.result made.block made.number made.node _ c.node_holds.ensures c.if-not-node_holds.true
+
+pub returns-in_err-equation : goal.returns-in_err-equation
+returns-in_err-equation c =
+    let b = block_of c.args.block.now.view in
+    let k = c.args.number in
+    let made = c.by_number-at.ensures in
+    subst (First (Holds b c.args.check) (node_places k (node_at b k))) (sym c.from_residual.ensures)
+    (node_goes_on c.args.block.now.view c.args.check k c.by_number-at.result made.block made.number made.node _ c.node_holds.ensures c.if-not-node_holds.false None c.in_err-equation.ensures)
 
 pub returns : goal.returns
 returns c =
-    node_goes_on (block_of c.args.block.now) c.args.check c.args.k c.node_view-node.result c.node_view-node.ensures _ c.node_holds.ensures c.if-not-node_holds.false _ c.first_equation.ensures
+    let made = c.by_number-at.ensures in
+    node_goes_on c.args.block.now.view c.args.check c.args.number c.by_number-at.result made.block made.number made.node _ c.node_holds.ensures c.if-not-node_holds.false (Some c.in_ok-equation.equation) c.in_ok-equation.ensures

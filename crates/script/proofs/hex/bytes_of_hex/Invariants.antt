@@ -1,7 +1,10 @@
-use Rattle.std.proofs.Common.{◌≡◌, ◌*◌, drop, vec_items}
+use Rattle.std.proofs.Common.{◌≡◌, length, vec_items}
 use Rattle.script.specs.Hex.{unhex}
 use Rattle.script.proofs.Hexes.{ahead}
 use Rattle.script.proofs.hex.bytes_of_hex.Given as goal
 
-abbrev pub invariant-loop-i : goal.invariant-loop-i
-invariant-loop-i l = ahead (vec_items l.bytes) (unhex (drop (2 * l.i) l.digits)) ≡ unhex l.text
+abbrev pub invariant-loop-digits : goal.invariant-loop-digits
+invariant-loop-digits l = ahead (vec_items l.bytes) (unhex l.digits) ≡ unhex l.text
+
+abbrev pub decreases-loop-digits : goal.decreases-loop-digits
+decreases-loop-digits l = length l.digits

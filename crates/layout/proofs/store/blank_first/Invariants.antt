@@ -1,6 +1,0 @@
-use Rattle.layout.proofs.Blanking.{Blanked}
-use Rattle.layout.specs.Blanks.{blank_cell}
-use Rattle.layout.proofs.store.blank_first.Given as goal
-
-abbrev pub invariant-loop-i : goal.invariant-loop-i
-invariant-loop-i l = Blanked blank_cell l.initial.cells l.i l.cells

@@ -1,0 +1,10 @@
+use Rattle.std.proofs.Common.{refl, ap}
+use Rattle.syntax.specs.Syntax.{plain}
+use Rattle.syntax.specs.Decoder.{read_plain}
+use Rattle.layout.specs.declared.node.Form.TheVariants.{Plain}
+use Rattle.reading.proofs.Steps.{then_take, ends_into}
+use Rattle.reading.proofs.reader.BlockReader.plain.Goals as goal
+
+pub returns : goal.returns
+unfolding read_plain
+returns c = then_take _ _ c.in_ok-flow.ensures.takes (ends_into _ _ (plain c.in_ok-flow.field-0) c.in_ok-cells.ensures (λ from x. ap (Plain c.in_ok-flow.field-0)) (λ x. refl) (λ x. refl))
