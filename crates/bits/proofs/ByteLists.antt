@@ -2,16 +2,16 @@
 use Rattle.std.proofs.Common.{◌≡◌, ℕ, zero, suc, ◌+◌, ◌-◌, ◌*◌, ◌/◌, ◌%◌, ◌^◌, ◌<◌, ◌≤◌, List, [], ◌∷◌, ◌++◌, map, length, get_or, replicate, sym, refl, ap, ◌∙◌, ⊎_elim, arith, length-append}
 use native.Mathlib.Nat.{zero-div}
 use lib.ListN.{length-replicate}
-use Rattle.std.proofs.lemmas.List.{append_assoc, ext_get_or, get_or_past}
+use Rattle.std.proofs.lemmas.List.{ext_get_or, get_or_past}
 use Rattle.std.proofs.lemmas.List.FromFn.{length-map-range_with_len, get_or-map-range_with_len}
 use Rattle.std.specs.List.{range_with_len}
 use Rattle.std.proofs.lemmas.Bool.{cases_lt}
 use Rattle.bits.specs.Bits.{bits_of, number_of, digits, byte_at, bytes_of, Bytes}
 use Rattle.bits.specs.Overwriting.{set_bits, written}
-use Rattle.bits.proofs.Lists.{map_same}
+use Rattle.bits.proofs.Lists.{map_same, read_replicated}
 use Rattle.bits.proofs.Written.{written_at, written_after}
 use Rattle.bits.proofs.BitLists.{length_bits, get_d_bits, length_digits, get_or-digits, number_digits, digits_number}
-use Rattle.bits.proofs.SetBits.{bytes_set_bits, bits_overwritten, set_bits_left}
+use Rattle.bits.proofs.SetBits.{bytes_set_bits, bits_overwritten}
 pub use Rattle.bits.proofs.SetBits.{length-set_bits, set_bits-append}
 
 -- as many bytes as the bits need
@@ -56,9 +56,7 @@ digits-byte_at bits j h =
 
 -- zeros after a list read as its end does
 pub get_or-zeros : (xs : List ℕ) (n i : ℕ) → get_or (xs ++ replicate n 0) i 0 ≡ get_or xs i 0
-get_or-zeros [] zero i = refl
-get_or-zeros [] (suc n) zero = refl
-get_or-zeros [] (suc n) (suc i) = get_or-zeros [] n i
+get_or-zeros [] n i = read_replicated 0 n i
 get_or-zeros (x ∷ xs) n zero = refl
 get_or-zeros (x ∷ xs) n (suc i) = get_or-zeros xs n i
 
@@ -143,10 +141,3 @@ module _ (n : ℕ) (bs : List ℕ) (h : length bs ≤ 8 * n) (low : (i : ℕ) �
       let fits : Bytes put = bytes_set_bits zeros 0 bs zero_bytes low (omega arith) in
       ext_get_or 0 put (bytes_of bs ++ replicate left 0) (omega arith) (λ j _.
       sym (byte_at_bits put j (fits j)) ∙ byte_at_same (bits_of put) bs j bits_over_zeros ∙ sym (get_or-bytes bs j) ∙ sym (get_or-zeros (bytes_of bs) left j))
-
--- bits put over zeros are the bytes that hold them, and the zeros after
-pub set_bits_zeros : (n : ℕ) (bs rest : List ℕ) → length bs ≤ 8 * n → ((i : ℕ) → get_or bs i 0 < 2) → set_bits (replicate n 0 ++ rest) 0 bs ≡ bytes_of bs ++ (replicate (n - length (bytes_of bs)) 0 ++ rest)
-set_bits_zeros n bs rest h low =
-    let zeros : List ℕ = replicate n 0 in
-    let k : length zeros ≡ n = length-replicate n 0 in
-    set_bits_left zeros rest 0 bs (omega arith) ∙ ap (λ xs. xs ++ rest) (set_bits_over_zeros n bs h low) ∙ append_assoc (bytes_of bs) (replicate (n - length (bytes_of bs)) 0) rest

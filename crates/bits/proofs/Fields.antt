@@ -1,8 +1,8 @@
 -- What the loops over the bits of a field keep.
-use Rattle.std.proofs.Common.{◌≡◌, ℕ, suc, ◌+◌, ◌-◌, ◌*◌, ◌/◌, ◌%◌, ◌^◌, ◌<◌, ◌≤◌, Bool, true, false, cond, ◌&&◌, leb, List, length, get_or, take, drop, Some, None, sym, refl, ◌∙◌, ⊎_elim, arith, length-drop, length-take, pow_mono}
+use Rattle.std.proofs.Common.{◌≡◌, ℕ, suc, ◌+◌, ◌-◌, ◌*◌, ◌/◌, ◌%◌, ◌^◌, ◌<◌, ◌≤◌, Bool, true, false, cond, ◌&&◌, leb, List, length, get_or, take, drop, Option, Some, None, is_some, IfSome, sym, refl, ◌∙◌, ⊎_elim, arith, length-drop, length-take, pow_mono}
 use Rattle.std.proofs.lemmas.List.{get_or-drop, get_or-take, get_or_past}
 use Rattle.std.proofs.lemmas.List.Sums.{fold_more}
-use Rattle.std.proofs.lemmas.Bool.{le-leb, lt-leb, cases_lt}
+use Rattle.std.proofs.lemmas.Bool.{and_parts, le-leb, lt-leb, cases_lt}
 use Rattle.bits.specs.Bits.{bits_of, number_of, digits, field_at}
 use Rattle.bits.specs.Overwriting.{set_bit, set_bits}
 use Rattle.bits.proofs.BitLists.{length_bits, bits_of-bit, number_of-below, digits_none, digits_front}
@@ -31,6 +31,11 @@ field_none w bytes at h = rw (length_bits bytes) (cond_both (leb w 32) (leb (at 
 pub field-whole : (w : ℕ) (bytes : List ℕ) (at : ℕ) → at + w ≤ 8 * length bytes → field_at w (bits_of bytes) at ≡ Some (number_of (take w (drop at (bits_of bytes))))
 field-whole w bytes at h = field_at_reads w (bits_of bytes) at (omega (arith, length_bits bytes))
 
+-- what is some where the bytes hold the field, and then what is there, is the field
+pub field_of : {P : ℕ → Type 0} (w : ℕ) (bytes : List ℕ) (at : ℕ) (r : Option ℕ) → is_some r ≡ (leb w 32 && leb (at + w) (8 * length bytes)) → IfSome r P → ((v : ℕ) → P v → Some v ≡ field_at w (bits_of bytes) at) → r ≡ cond (leb w 32) (field_at w (bits_of bytes) at) None
+field_of w bytes at (Some v) h p g = rw (and_parts (leb w 32) (leb (at + w) (8 * length bytes)) (sym h)).0 (g v p)
+field_of w bytes at None h p g = sym (field_none w bytes at (sym h))
+
 -- one bit more in a number
 pub number_more : (bytes : List ℕ) (at k : ℕ) → at + k < 8 * length bytes → number_of (take (k + 1) (drop at (bits_of bytes))) ≡ number_of (take k (drop at (bits_of bytes))) * 2 + get_or (bits_of bytes) (at + k) 0
 number_more bytes at k h =
@@ -55,12 +60,6 @@ pub record Putting (v w at : ℕ) (out₀ : List ℕ) (k : ℕ) (out : List ℕ)
   pub left : set_bits out (at + k) (digits (w - k) v) ≡ set_bits out₀ at (digits w v)
 
 module _ {v w at : ℕ} {out₀ : List ℕ} where
-  pub putting_none : Putting v w at out₀ 0 out₀
-  putting_none =
-      let z : w - 0 ≡ w = omega arith in
-      let a : at + 0 ≡ at = omega arith in
-      record { left = rw (z, a) }
-
   pub putting_more : {k : ℕ} {out : List ℕ} → Putting v w at out₀ k out → k < w → Putting v w at out₀ (k + 1) (set_bit out (at + k) (v / 2 ^ (w - 1 - k) % 2))
   putting_more {k} {out} h l =
       let n : w - k ≡ suc (w - 1 - k) = omega arith in

@@ -7,11 +7,6 @@ pub written_none : {A : Type 0} (xs : List A) (i : ℕ) → written xs i [] ≡ 
 unfolding written
 written_none xs i = refl
 
--- one element, then the others
-pub written_more : {A : Type 0} (xs : List A) (i : ℕ) (y : A) (ys : List A) → written xs i (y ∷ ys) ≡ written (set xs i y) (i + 1) ys
-unfolding written
-written_more xs i y ys = refl
-
 -- the length stays
 pub length-written : {A : Type 0} (xs : List A) (i : ℕ) (ys : List A) → length (written xs i ys) ≡ length xs
 unfolding written

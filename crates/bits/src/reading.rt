@@ -19,6 +19,7 @@ fn number_at(bytes: &[u8], at: usize, width: u8) -> u32
     requires inside { at + width ≤ 8 * length bytes.now }
     ensures { Some result ≡ field_at width (bits_of bytes.now) at }
 {
+    // A loop and no `fold`, whose closure would not know how large the number is.
     let mut value: u32 = 0;
     for k in 0..width {
         value = value * 2 + u32::from(bit_after(bytes, at, k));
@@ -30,9 +31,5 @@ fn number_at(bytes: &[u8], at: usize, width: u8) -> u32
 pub fn field(bytes: &[u8], at: usize, width: u8) -> Option<u32>
     ensures { result ≡ (if nat_le width 32 then field_at width (bits_of bytes.now) at else None) }
 {
-    if hold_field(bytes, at, width) {
-        Some(number_at(bytes, at, width))
-    } else {
-        None
-    }
+    hold_field(bytes, at, width).then(|| number_at(bytes, at, width))
 }

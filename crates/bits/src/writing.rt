@@ -9,7 +9,7 @@ use crate::place::{Place, hold_field};
 #[derive(Clone, Copy, Debug, PartialEq, Eq)]
 pub struct OutOfRange;
 
-// The byte `x` with its bit of worth `2^s` replaced by `b`.
+// The byte `x` with its bit of worth `2^s` replaced by `b`. By division, as `with_bit` is.
 fn byte_with(x: u8, s: u8, b: bool) -> u8
     requires { s < 8 }
     ensures { result ≡ with_bit x s (from_bool b) }

@@ -3,7 +3,7 @@ use Rattle.std.proofs.Common.{◌≡◌, ℕ, ◌+◌, Bool, true, false, cond, 
 use Rattle.std.proofs.lemmas.Bool.Decides.{nat_tests}
 use Rattle.std.proofs.lemmas.List.Sums.{sum_by-append, sum_by-cons}
 use Rattle.syntax.specs.declared.cell.Cell.{Cell}
-use Rattle.syntax.specs.Encoder.{joined}
+use Rattle.std.specs.List.{flat_map}
 use Rattle.syntax.specs.Syntax.{EquationSyntax}
 use Rattle.layout.specs.declared.node.Equation.{Equation}
 use Rattle.layout.specs.Layout.{form_in, equation_in}
@@ -15,11 +15,10 @@ use Rattle.checks.specs.Rows.{times_defined}
 use Rattle.checks.specs.Sums.{capped}
 
 -- rows define what the equations that they stand for do
-pub rows_define : (cells : List Cell) (x : ℕ) (es : List Equation) → times_defined x es ≡ times x (joined (λ (e : EquationSyntax). defined_by e.form) (map (equation_in cells) es))
-unfolding joined
+pub rows_define : (cells : List Cell) (x : ℕ) (es : List Equation) → times_defined x es ≡ times x (flat_map (λ (e : EquationSyntax). defined_by e.form) (map (equation_in cells) es))
 rows_define cells x [] = refl
 rows_define cells x (e ∷ es) =
-    let rest = joined (λ (d : EquationSyntax). defined_by d.form) (map (equation_in cells) es) in
+    let rest = flat_map (λ (d : EquationSyntax). defined_by d.form) (map (equation_in cells) es) in
     sum_by-cons (λ (d : Equation). times x (row_defines d.form)) e es
     ∙ ap (λ n. times x (row_defines e.form) + n) (rows_define cells x es)
     ∙ ap (λ ys. times x ys + times x rest) (row-defined cells e.form)

@@ -2,7 +2,6 @@
 use Rattle.std.proofs.Common.{◌≡◌, ℕ, zero, suc, ◌+◌, ◌<◌, ◌≤◌, List, [], ◌∷◌, ◌++◌, map, length, get_or, take, refl, sym, ap, ◌∙◌, arith, length-take}
 use Rattle.std.proofs.lemmas.List.{length-map, length_push, map-append, take_all, take_more}
 use Rattle.std.specs.List.{fold}
-use Rattle.std.proofs.lemmas.List.Sums.{fold_more}
 use Rattle.syntax.specs.declared.cell.Cell.{Cell}
 use Rattle.syntax.specs.Syntax.{FormSyntax, EquationSyntax, NodeSyntax, BlockSyntax, plain, delay, call}
 use Rattle.layout.specs.declared.node.Equation.{Equation}
@@ -53,9 +52,6 @@ module _ (b : BlockSyntax) (known : List Size) (cells : List Cell) where
       ap (λ r. fold add_row r rows) (capped-plus s f)
       ∙ adds_from (plus s f) rows
       ∙ ap capped_size (plus_assoc s f (equations_size b known (map (equation_in cells) rows)))
-
-  pub added_more : (i : ℕ) (rows : List Equation) (e : Equation) → i < length rows → added (i + 1) rows ≡ add_row (added i rows) (get_or rows i e)
-  added_more i rows e l = fold_more add_row no_size rows i e l
 
   pub added_all : (i : ℕ) (rows : List Equation) → length rows ≤ i → added i rows ≡ capped_size (equations_size b known (map (equation_in cells) rows))
   added_all i rows l =

@@ -1,5 +1,5 @@
 -- Sums that stop at the largest number.
-use Rattle.std.proofs.Common.{◌≡◌, ℕ, ◌+◌, ◌^◌, ◌<◌, List, [], ◌∷◌, map, ap, ◌∙◌, arith}
+use Rattle.std.proofs.Common.{◌≡◌, ℕ, ◌+◌, List, [], ◌∷◌, map, ap, ◌∙◌, arith}
 use Rattle.std.specs.List.{fold, sum_by}
 use Rattle.std.proofs.lemmas.List.Sums.{sum_by-cons}
 use Rattle.checks.specs.Sums.{capped}
@@ -13,9 +13,6 @@ capped_left a b = omega arith
 
 pub capped_right : (a b : ℕ) → capped (a + capped b) ≡ capped (a + b)
 capped_right a b = omega arith
-
-pub capped_same : (a : ℕ) → a < 2 ^ 64 → a ≡ capped a
-capped_same a h = omega arith
 
 module _ {A : Type 0} (f : A → ℕ) where
   fold_from : (a : ℕ) (xs : List A) → fold (λ s n. capped (s + n)) (capped a) (map f xs) ≡ capped (a + sum_by f xs)

@@ -6,7 +6,7 @@ ghost use Rattle.rules.specs.Kinds.{clocks_are_truths};
 ghost use Rattle.rules.specs.Names.{chain};
 ghost use Rattle.rules.specs.Views.{block_of, node_of};
 
-use crate::place::NodeInBlock;
+use crate::place::{NodeInBlock, is_main};
 use layout::parts::front;
 use rules::view::NodeView;
 use rules::view::chain::clock_chain;
@@ -45,13 +45,14 @@ fn ends_on_base(node: &NodeView<'_>) -> bool
 fn flows_clocked(at: &NodeInBlock<'_>) -> bool
     ensures { result ≡ flows_clocked (block_of at.now.block) at.now.number (node_of at.now.node) }
 {
-    inputs_by_inputs(&at.node) && (at.is_main() || ends_on_base(&at.node))
+    inputs_by_inputs(&at.node) && (is_main(&at.block, at.number) || ends_on_base(&at.node))
 }
 
 // Whether none of the earlier clocks is like this one.
 fn new_among(earlier: &[DerivedClock], clock: &DerivedClock) -> bool
     ensures { result ≡ list_all (λ e. not (alike e clock.now)) earlier.now }
 {
+    // Not `!earlier.contains(clock)`: tried, and the proof did not close.
     earlier.iter().all(|other| other != clock)
 }
 

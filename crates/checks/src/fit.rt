@@ -59,6 +59,7 @@ fn is_flow(node: &NodeView<'_>, flow: u8) -> bool
 fn cell_fits(node: &NodeView<'_>, cell: Cell) -> bool
     ensures { result ≡ list_all (is_flow (node_of node.now)) (cell_flows cell) }
 {
+    // A chain and no `is_none_or`: tried, and the proof did not close.
     cell_flow(cell).into_iter().all(|flow| is_flow(node, flow))
 }
 
@@ -82,6 +83,8 @@ fn results_fit(node: &NodeView<'_>, results: &Results) -> bool
 {
     results.iter().all(|flow| is_flow(node, *flow))
 }
+
+// Results and arguments stay two: a struct of them would hold two references and be made at each call.
 
 // Whether a call has as many results and arguments as the callee outputs and inputs, and names no flows but the
 // node's.

@@ -4,10 +4,10 @@ ghost use Rattle.rules.specs.Names.{node_at};
 ghost use Rattle.rules.specs.Views.{block_of, node_of};
 
 use rules::view::looking::node_view;
-use rules::view::{BlockView, NodeView};
+use rules::view::{BlockView, HeldBlock, NodeView};
 
 // A node, the block in which it is looked at, and its number there.
-#[derive(Clone, Copy)]
+#[derive(Clone, Copy, Debug, PartialEq, Eq)]
 pub struct NodeInBlock<'a> {
     pub block: BlockView<'a>,
     pub number: usize,
@@ -27,11 +27,26 @@ impl<'a> NodeInBlock<'a> {
             node: node_view(block, number),
         }
     }
+}
 
-    pub fn is_main(&self) -> bool
-        ensures { result ≡ is_main (block_of self.now.block) self.now.number }
+// A node, its number, and the block, which rows can hold.
+#[derive(Clone, Copy, Debug, PartialEq, Eq)]
+pub struct NodeInHeld<'a> {
+    pub block: HeldBlock<'a>,
+    pub number: usize,
+    pub node: NodeView<'a>,
+}
+
+impl<'a> NodeInHeld<'a> {
+    // The same node in any block.
+    pub fn in_view(&self) -> NodeInBlock<'a>
+        ensures { result ≡ record { block = self.now.block.view; number = self.now.number; node = self.now.node } }
     {
-        is_main(&self.block, self.number)
+        NodeInBlock {
+            block: self.block.view,
+            number: self.number,
+            node: self.node,
+        }
     }
 }
 

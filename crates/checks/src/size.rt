@@ -5,7 +5,7 @@ ghost use Rattle.layout.specs.Layout.{arguments_in, expression_in, form_in};
 ghost use Rattle.rules.specs.Size.{cells_in, equations_size, form_size, main_small, no_size, plus, sizes, small};
 ghost use Rattle.rules.specs.Views.{block_of, node_of};
 
-use crate::place::is_main;
+use crate::place::{NodeInHeld, is_main};
 use arrayvec::ArrayVec;
 use layout::node::{Arguments, Form, Span};
 use layout::parts::expression;
@@ -66,6 +66,7 @@ fn size_at(sizes: &[Size], number: usize) -> Size
 fn argument_cells(cells: &[Cell], arguments: &Arguments) -> usize
     ensures { result ≡ capped (cells_in (arguments_in cells.now arguments.now)) }
 {
+    // A fold and no `sum`: tried, and the proof did not close.
     arguments
         .iter()
         .map(|span| expression(cells, *span).len())
@@ -128,6 +129,7 @@ impl Sizing<'_> {
     fn node_size(&self, node: &NodeView<'_>) -> Size
         ensures { result ≡ capped_size (equations_size (block_of self.now.block) self.now.earlier.now (node_of node.now).equations) }
     {
+        // A loop and no `fold`: tried, and the proof did not close.
         let mut size = Size::default();
         for equation in node.equations {
             size = size.plus(self.form_size(node.cells, &equation.form));
@@ -153,15 +155,15 @@ fn sizes_of(block: &HeldBlock<'_>) -> ArrayVec<Size, 8>
     sizes
 }
 
-fn small(block: &HeldBlock<'_>, number: usize, node: &NodeView<'_>) -> bool
-    ensures { result ≡ small (block_of block.now.view) number (node_of node.now) }
+fn small(at: &NodeInHeld<'_>) -> bool
+    ensures { result ≡ small (block_of at.now.block.view) at.now.number (node_of at.now.node) }
 {
-    size_at(&sizes_of(block), number).is_small(node.flows.len())
+    size_at(&sizes_of(&at.block), at.number).is_small(at.node.flows.len())
 }
 
-// Whether the node of this number, where it is the main one, has an expansion that is not too large.
-pub fn main_small(block: &HeldBlock<'_>, number: usize, node: &NodeView<'_>) -> bool
-    ensures { result ≡ main_small (block_of block.now.view) number (node_of node.now) }
+// Whether a node, where it is the main one, has an expansion that is not too large.
+pub fn main_small(at: &NodeInHeld<'_>) -> bool
+    ensures { result ≡ main_small (block_of at.now.block.view) at.now.number (node_of at.now.node) }
 {
-    !is_main(&block.view, number) || small(block, number, node)
+    !is_main(&at.block.view, at.number) || small(at)
 }

@@ -5,7 +5,7 @@ ghost use Rattle.classes.specs.Members.{compartments_lawful};
 use crate::system::ClassSystem;
 
 // Sets of at most 16 members: bit i of a set says whether i is a member. Every code is the set of its bits.
-#[derive(Clone, Copy)]
+#[derive(Clone, Copy, Debug, PartialEq, Eq)]
 pub struct Compartments;
 
 impl Compartments {

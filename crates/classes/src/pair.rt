@@ -12,7 +12,7 @@ pub struct Both<X, Y> {
 }
 
 // Two systems as one. The high byte of a code names a class of the first, the low byte one of the second.
-#[derive(Drop)]
+#[derive(Debug, Drop, PartialEq, Eq)]
 pub struct Pair<A, B> {
     first: A,
     second: B,

@@ -1,6 +1,6 @@
 ghost use Rattle.std.specs.Prelude.{◌≡◌};
 ghost use Rattle.layout.specs.Layout.{results_in, arguments_in, form_in};
-ghost use Rattle.rules.specs.Kinds.{constant_kind, form_kinded};
+ghost use Rattle.rules.specs.Kinds.{form_kinded};
 ghost use Rattle.rules.specs.Views.{node_of, block_of};
 ghost use Rattle.equation_rules.specs.Calls.{results_kinded, arguments_kinded};
 
@@ -8,18 +8,9 @@ use layout::node::{Arguments, Equation, Form, Results};
 use layout::parts::expression;
 use rules::view::looking::{flow_at, node_view};
 use rules::view::{BlockView, NodeView};
-use syntax::header::{Constant, Kind};
+use syntax::header::Kind;
 use typing::kinds::flow_kind;
 use typing::walk::kind_of;
-
-fn constant_kind(constant: Constant) -> Kind
-    ensures { result ≡ constant_kind constant }
-{
-    match constant {
-        Constant::Truth(_) => Kind::Truth,
-        Constant::Number(_) => Kind::Number,
-    }
-}
 
 fn results_kinded(node: &NodeView<'_>, callee: &NodeView<'_>, results: &Results) -> bool
     ensures { result ≡ results_kinded (node_of node.now) (node_of callee.now) (results_in results.now) }
@@ -48,7 +39,7 @@ pub fn equation_kinded(block: &BlockView<'_>, node: &NodeView<'_>, equation: &Eq
         }
         Form::Delay { flow, first, cells } => {
             let kind = flow_kind(node, *flow);
-            constant_kind(*first) == kind
+            Kind::from(*first) == kind
                 && kind_of(node, expression(node.cells, *cells)) == Some(kind)
         }
         Form::Call {

@@ -3,7 +3,7 @@ use Rattle.std.proofs.Common.{◌≡◌, ℕ, zero, suc, ◌+◌, ◌<◌, ◌�
 use Rattle.std.proofs.lemmas.List.{get_or-map, length-map, at_drop_more, at_drop_all}
 use Rattle.std.proofs.lemmas.Bool.Decides.{not_from_Decides}
 use Rattle.syntax.specs.Syntax.{BlockSyntax}
-use Rattle.syntax.specs.Encoder.{joined}
+use Rattle.std.specs.List.{flat_map}
 use Rattle.layout.specs.declared.node.Equation.{Equation}
 use Rattle.layout.specs.declared.node.Form.TheVariants.{Plain}
 use Rattle.layout.specs.Layout.{equation_in}
@@ -78,13 +78,13 @@ module _ (b : BlockSyntax) (c : Check) (k : ℕ) (v : NodeView) (same : node_of 
       (λ h. failed blank_equation (at_row i l (subst (λ j. Holds b c (at_equation k j)) here h))))
 
 -- node k of a block, at which a check was asked of the node as a whole
-module _ (w : BlockView) (c : Check) (k : ℕ) (at : NodeInBlock) (from : at.block ≡ w) (numbered : at.number ≡ k) (same : node_of at.node ≡ node_at (block_of w) k) (r : Bool) (d : Decides r (NodeHolds (block_of w) c k (node_of at.node))) where
+module _ (w : BlockView) (c : Check) (k : ℕ) (at : NodeInBlock) (made : record { block : at.block ≡ w; number : at.number ≡ k; node : node_of at.node ≡ node_at (block_of w) k }) (r : Bool) (d : Decides r (NodeHolds (block_of w) c k (node_of at.node))) where
   -- what is known of the block and number that are held is known of those that they are
   known : (P : BlockSyntax → ℕ → Type 0) → P (block_of at.block) at.number → P (block_of w) k
-  known P h = subst (P (block_of w)) numbered (subst (λ x. P (block_of x) at.number) from h)
+  known P h = subst (P (block_of w)) made.number (subst (λ x. P (block_of x) at.number) made.block h)
 
   node_asked : Decides r (Holds (block_of w) c (at_node k))
-  node_asked = subst (λ n. Decides r (NodeHolds (block_of w) c k n)) same d
+  node_asked = subst (λ n. Decides r (NodeHolds (block_of w) c k n)) made.node d
 
   pub node_stops : r ≡ false → First (Holds (block_of w) c) (node_places k (node_at (block_of w) k)) (Some (at_node k))
   node_stops failed = fails (not_from_Decides r node_asked failed)
@@ -92,8 +92,8 @@ module _ (w : BlockView) (c : Check) (k : ℕ) (at : NodeInBlock) (from : at.blo
   pub node_goes_on : r ≡ true → (o : Option ℕ) → FirstFailure (RowHolds (block_of at.block) c at.number at.node) at.node.equations.now o → First (Holds (block_of w) c) (node_places k (node_at (block_of w) k)) (option_map (at_equation k) o)
   node_goes_on passed o f =
       let v = at.node in
-      let many = sym (length-map v.equations.now (equation_in v.cells.now)) ∙ ap (λ n. length n.equations) same in
-      let found = first_of_rows (block_of w) c k v same o (known (λ b j. FirstFailure (RowHolds b c j v) v.equations.now o) f) in
+      let many = sym (length-map v.equations.now (equation_in v.cells.now)) ∙ ap (λ n. length n.equations) made.node in
+      let found = first_of_rows (block_of w) c k v made.node o (known (λ b j. FirstFailure (RowHolds b c j v) v.equations.now o) f) in
       holds (node_asked.0 passed) (subst (λ n. First (Holds (block_of w) c) (equation_places k 0 n) (option_map (at_equation k) o)) many found)
 
 module _ (b : BlockSyntax) (c : Check) where
@@ -121,28 +121,26 @@ module _ (b : BlockSyntax) where
 
   -- the checks from i on decide for all of them
   abbrev pub ChecksLeft : ℕ → Type 0
-  ChecksLeft i = Left Asked (questions b) (joined (questions_of (places b)) (drop i checks))
+  ChecksLeft i = Left Asked (questions b) (flat_map (questions_of (places b)) (drop i checks))
 
   module _ (i : ℕ) (d : Check) (l : i < length checks) (w : ChecksLeft i) where
-    checks_turn : Left Asked (questions b) (questions_of (places b) (get_or checks i d) ++ joined (questions_of (places b)) (drop (i + 1) checks))
-    unfolding joined
-    checks_turn = subst (Left Asked (questions b)) (at_drop_more (joined (questions_of (places b))) checks i d l) w
+    checks_turn : Left Asked (questions b) (questions_of (places b) (get_or checks i d) ++ flat_map (questions_of (places b)) (drop (i + 1) checks))
+    checks_turn = subst (Left Asked (questions b)) (at_drop_more (flat_map (questions_of (places b))) checks i d l) w
 
     pub checks_more : First (Holds b (get_or checks i d)) (places b) None → ChecksLeft (i + 1)
     checks_more f =
-        left_after Asked (questions b) (questions_of (places b) (get_or checks i d)) (joined (questions_of (places b)) (drop (i + 1) checks)) checks_turn (first_map (λ p. (get_or checks i d, p)) f)
+        left_after Asked (questions b) (questions_of (places b) (get_or checks i d)) (flat_map (questions_of (places b)) (drop (i + 1) checks)) checks_turn (first_map (λ p. (get_or checks i d, p)) f)
 
     pub checks_stop : (p : Place) (e : ExamineFault) → First (Holds b (get_or checks i d)) (places b) (Some p) → e ≡ fault_at (get_or checks i d) p → Examined b (Err e)
     checks_stop p e f is = record {
       first = Some (get_or checks i d, p);
-      is_first = left_before Asked (questions b) (questions_of (places b) (get_or checks i d)) (joined (questions_of (places b)) (drop (i + 1) checks)) (get_or checks i d, p) checks_turn (first_map (λ p. (get_or checks i d, p)) f);
+      is_first = left_before Asked (questions b) (questions_of (places b) (get_or checks i d)) (flat_map (questions_of (places b)) (drop (i + 1) checks)) (get_or checks i d, p) checks_turn (first_map (λ p. (get_or checks i d, p)) f);
       answers = ap Err is;
     }
 
   pub checks_all : (i : ℕ) → length checks ≤ i → ChecksLeft i → Examined b (Ok tt)
-  unfolding joined
   checks_all i l w = record {
     first = None;
-    is_first = w None (subst (λ qs. First Asked qs None) (sym (at_drop_all (joined (questions_of (places b))) checks i l)) none);
+    is_first = w None (subst (λ qs. First Asked qs None) (sym (at_drop_all (flat_map (questions_of (places b))) checks i l)) none);
     answers = refl;
   }

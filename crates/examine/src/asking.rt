@@ -7,7 +7,7 @@ ghost use Rattle.rules.specs.Views.{node_of, block_of};
 use checks::clocks::{clocks_are_truths, node_clocked};
 use checks::definitions::defined_once;
 use checks::fit::{equation_fits, node_fits};
-use checks::place::NodeInBlock;
+use checks::place::{NodeInBlock, NodeInHeld};
 use checks::size::main_small;
 use equation_rules::clocked::equation_clocked;
 use equation_rules::kinded::equation_kinded;
@@ -15,28 +15,23 @@ use equation_rules::shaped::equation_shaped;
 use layout::node::Equation;
 use order::ordering::has_no_cycle;
 use rules::fault::Check;
-use rules::view::{HeldBlock, NodeView};
 
 // A check is chosen by a match, here and below: the rules name each check, and say what it asks, in the same way.
 
 // Whether a check holds of a node's flows and derived clocks.
-pub fn node_holds(block: &HeldBlock<'_>, check: Check, number: usize, node: &NodeView<'_>) -> bool
-    requires inside { number < length block.now.view.nodes.now }
-    requires node { node_of node.now ≡ node_at (block_of block.now.view) number }
-    ensures { Decides result (NodeHolds (block_of block.now.view) check number (node_of node.now)) }
+pub fn node_holds(at: &NodeInHeld<'_>, check: Check) -> bool
+    requires inside { at.now.number < length at.now.block.view.nodes.now }
+    requires node { node_of at.now.node ≡ node_at (block_of at.now.block.view) at.now.number }
+    ensures { Decides result (NodeHolds (block_of at.now.block.view) check at.now.number (node_of at.now.node)) }
 {
     match check {
-        Check::Fit => node_fits(node),
+        Check::Fit => node_fits(&at.node),
         Check::Shape => true,
-        Check::Kinds => clocks_are_truths(node),
-        Check::Clocks => node_clocked(&NodeInBlock {
-            block: block.view,
-            number,
-            node: *node,
-        }),
-        Check::Definitions => defined_once(node),
-        Check::Cycles => has_no_cycle(&block.view.nodes[number], block.view.cells),
-        Check::Size => main_small(block, number, node),
+        Check::Kinds => clocks_are_truths(&at.node),
+        Check::Clocks => node_clocked(&at.in_view()),
+        Check::Definitions => defined_once(&at.node),
+        Check::Cycles => has_no_cycle(&at.block.view.nodes[at.number], at.block.view.cells),
+        Check::Size => main_small(at),
     }
 }
 

@@ -8,7 +8,7 @@ ghost use Rattle.rules.specs.Views.{node_of, block_of};
 
 use crate::asking::{equation_holds, node_holds};
 use block::rows::Rows;
-use checks::place::NodeInBlock;
+use checks::place::{NodeInBlock, NodeInHeld};
 use rules::fault::{Check, ExamineFault, Place};
 use rules::view::{BlockView, HeldBlock};
 
@@ -33,13 +33,20 @@ fn first_equation(at: &NodeInBlock<'_>, check: Check) -> Option<usize>
         .position(|equation| !equation_holds(at, check, equation))
 }
 
+// Block and check stay two, here and below: a struct of them would be made for two functions.
+
 // The first place in a node at which a check fails.
 fn first_in_node(block: &HeldBlock<'_>, check: Check, number: usize) -> Option<Place>
     requires { number < length block.now.view.nodes.now }
     ensures { First (Holds (block_of block.now.view) check) (node_places number (node_at (block_of block.now.view) number)) result }
 {
     let at = NodeInBlock::by_number(&block.view, number);
-    if !node_holds(block, check, number, &at.node) {
+    let held = NodeInHeld {
+        block: *block,
+        number,
+        node: at.node,
+    };
+    if !node_holds(&held, check) {
         return Some(Place {
             node: number,
             equation: None,
@@ -56,6 +63,7 @@ fn first_in_node(block: &HeldBlock<'_>, check: Check, number: usize) -> Option<P
 fn first_in_block(block: &HeldBlock<'_>, check: Check) -> Option<Place>
     ensures { First (Holds (block_of block.now.view) check) (places (block_of block.now.view)) result }
 {
+    // A loop and no `find_map`: tried, and the proof did not close.
     for number in 0..block.view.nodes.len() {
         if let Some(place) = first_in_node(block, check, number) {
             return Some(place);
@@ -68,6 +76,7 @@ fn first_in_block(block: &HeldBlock<'_>, check: Check) -> Option<Place>
 fn examine_block(block: &HeldBlock<'_>) -> Result<(), ExamineFault>
     ensures { Examined (block_of block.now.view) result }
 {
+    // A loop and no `try_for_each`, whose contract speaks of calls and not of the first place.
     for check in CHECKS {
         if let Some(place) = first_in_block(block, check) {
             return Err(check.fault_at(place));

@@ -10,7 +10,8 @@ use Rattle.flat.specs.declared.value.Value.{Value}
 use Rattle.flat.specs.Programs.{Definition, input, plain, delay, Program, size, row, exp_flows, control_flows, clock_flow, chain, clock_flows, needs_of, needs, sources_of, sources, Ordered}
 use Rattle.flat.specs.Values.{Answers, read_as, constant_value, says, gate, unary_value, binary_value, picked, exp_value, control_value, on}
 use Rattle.flat.specs.Beats.{Held, due, renewed, AtDelay, AtInput, Beat, Run, none, beat}
-use Rattle.flat.proofs.Alls.{all_at, all_of, all_left, all_right, all_both}
+use Rattle.syntax.proofs.Undoing.{all_append}
+use Rattle.flat.proofs.Alls.{all_at, all_of, all_left, all_right}
 
 -- the flow that a clock names is one that it goes by, so what a flow needs bears on it
 module _ (P : ℕ → Type 0) (p : Program) where
@@ -22,7 +23,7 @@ module _ (P : ℕ → Type 0) (p : Program) where
   needed_of : (k : Clock) (d : Definition) → 0 < size p → AllByRecursion P (sources_of p k d) → AllByRecursion P (needs_of k d)
   needed_of k input h a = own (size p) h k a
   needed_of k (plain c) h a =
-      all_both P (clock_flow k) (control_flows c) (own (size p) h k (all_left P (clock_flows p k) (control_flows c) a)) (all_right P (clock_flows p k) (control_flows c) a)
+      all_append P (clock_flow k) (control_flows c) (own (size p) h k (all_left P (clock_flows p k) (control_flows c) a)) (all_right P (clock_flows p k) (control_flows c) a)
   needed_of k (delay v e) h a = own (size p) h k (all_left P (clock_flows p k) (exp_flows e) a)
 
   pub needed : (x : ℕ) → x < size p → AllByRecursion P (sources p x) → AllByRecursion P (needs p x)

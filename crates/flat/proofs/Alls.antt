@@ -20,10 +20,6 @@ module _ {A : Type 0} (P : A → Type 0) where
   all_right [] ys h = h
   all_right (x ∷ xs) ys h = all_right xs ys h.1
 
-  pub all_both : (xs ys : List A) → AllByRecursion P xs → AllByRecursion P ys → AllByRecursion P (xs ++ ys)
-  all_both [] ys h k = k
-  all_both (x ∷ xs) ys h k = (h.0, all_both xs ys h.1 k)
-
   pub map_all : {B : Type 0} (f : B → A) (ys : List B) → AllByRecursion P (map f ys) → AllByRecursion (λ y. P (f y)) ys
   map_all f [] h = tt
   map_all f (y ∷ ys) h = (h.0, map_all f ys h.1)

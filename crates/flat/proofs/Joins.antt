@@ -8,7 +8,8 @@ use Rattle.flat.specs.declared.row.Clock.{Clock}
 use Rattle.flat.specs.declared.row.Clock.TheVariants.{Base, On}
 use Rattle.flat.specs.Programs.{Definition, input, plain, delay, Program, size, row, exp_flows, control_flows, clock_flow, chain, clock_flows, needs_of, sources_of, Ordered}
 use Rattle.flat.specs.Constraints.{exp_class, control_class, clock_class, required, ClockClasses, OrderedClockClasses}
-use Rattle.flat.proofs.Alls.{map_all, all_left, all_right, all_both}
+use Rattle.syntax.proofs.Undoing.{all_append}
+use Rattle.flat.proofs.Alls.{map_all, all_left, all_right}
 use Rattle.flat.proofs.Agreement.{before}
 
 module _ {C : Type 0} {m : Classes C} (laws : ClassLaws m) (class : ℕ → C) (t : C) where
@@ -24,11 +25,11 @@ module _ {C : Type 0} {m : Classes C} (laws : ClassLaws m) (class : ℕ → C) (
   pub required_parts : (p : Program) (k : Clock) (d : Definition) → T (m.below (required m p class k d) t) → AllByRecursion Low (sources_of p k d)
   required_parts p k input h = parts (clock_flows p k) h
   required_parts p k (plain c) h =
-      all_both Low (clock_flows p k) (control_flows c)
+      all_append Low (clock_flows p k) (control_flows c)
       (parts (clock_flows p k) (first_below laws (clock_class m p class k) (control_class m class c) t h))
       (parts (control_flows c) (second_below laws (clock_class m p class k) (control_class m class c) t h))
   required_parts p k (delay v e) h =
-      all_both Low (clock_flows p k) (exp_flows e)
+      all_append Low (clock_flows p k) (exp_flows e)
       (parts (clock_flows p k) (first_below laws (clock_class m p class k) (exp_class m class e) t h))
       (parts (exp_flows e) (second_below laws (clock_class m p class k) (exp_class m class e) t h))
 

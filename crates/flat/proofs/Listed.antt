@@ -1,7 +1,6 @@
 -- The flows of a tree and those of the cells that list it.
 use Rattle.std.proofs.Common.{◌≡◌, List, [], ◌∷◌, ◌++◌, sym, refl, ap, ◌∙◌, ap₂}
 use Rattle.std.proofs.lemmas.List.{append-nil, append_assoc}
-use Rattle.syntax.specs.Encoder.{joined}
 use Rattle.syntax.specs.declared.cell.Cell.{Cell}
 use Rattle.syntax.specs.declared.cell.Cell.TheVariants.{Unary, Binary, When, Merge, If}
 use Rattle.rules.specs.Names.{cell_flows}
@@ -12,16 +11,13 @@ use Rattle.flat.specs.Listings.{FlowsAreListed}
 
 -- the flows of two lists of cells
 both : (xs ys : List Cell) → cells_flows (xs ++ ys) ≡ cells_flows xs ++ cells_flows ys
-unfolding joined
 both [] ys = refl
 both (c ∷ xs) ys = ap (λ ns. cell_flows c ++ ns) (both xs ys) ∙ sym (append_assoc (cell_flows c) (cells_flows xs) (cells_flows ys))
 
 last : (xs : List Cell) (c : Cell) → cells_flows (xs ++ (c ∷ [])) ≡ cells_flows xs ++ cell_flows c
-unfolding joined
 last xs c = both xs (c ∷ []) ∙ ap (λ ns. cells_flows xs ++ ns) (append-nil (cell_flows c))
 
 exp_listed : (e : Exp) → cells_flows (exp_cells e) ≡ exp_flows e
-unfolding joined
 exp_listed (flow x) = refl
 exp_listed (truth b) = refl
 exp_listed (number z) = refl

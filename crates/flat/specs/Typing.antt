@@ -6,7 +6,7 @@ use Rattle.syntax.specs.declared.cell.UnaryOp.TheVariants.{Not, Minus}
 use Rattle.syntax.specs.declared.header.Kind.{Kind}
 use Rattle.syntax.specs.declared.header.Kind.TheVariants as kind
 use Rattle.numbers.specs.Reckonings.{Reckonings}
-use Rattle.rules.specs.Kinds.{constant_kind}
+use Rattle.syntax.specs.Constants.{constant_kind}
 use Rattle.rules.specs.Trees.{Exp, Control, flow, truth, number, unary, binary, when, simple, merge, choose}
 use Rattle.flat.specs.declared.row.Clock.{Clock}
 use Rattle.flat.specs.declared.row.Clock.TheVariants.{Base, On}

@@ -3,7 +3,7 @@ use Rattle.std.proofs.Common.{◌≡◌, ℕ, ◌+◌, ◌≤◌, List, [], ◌�
 use Rattle.std.proofs.lemmas.List.{ext_get_or, get_or-take, length-take-le, drop-drop}
 use Rattle.syntax.specs.declared.cell.Cell.{Cell}
 use Rattle.syntax.specs.Syntax.{Expression, FormSyntax, EquationSyntax, NodeSyntax, BlockSyntax, plain, delay, call}
-use Rattle.syntax.specs.Encoder.{joined}
+use Rattle.std.specs.List.{flat_map}
 use Rattle.std.specs.List.{AllByRecursion}
 use Rattle.syntax.specs.Laws.{FormFits, EquationFits, NodeFits}
 use Rattle.layout.specs.declared.table.Table.{Table}
@@ -33,11 +33,11 @@ cells_parts all from a b h =
 -- rows of a list whose items come back come back
 pub rows_back : {A B : Type 0} (row : ℕ → A → B) (cells : A → List Cell) (back : B → A) (Good : A → Type 0) (all : List Cell)
     → ((x : A) (from : ℕ) → Good x → CellsAt all from (cells x) → back (row from x) ≡ x)
-    → (from : ℕ) (xs : List A) → AllByRecursion Good xs → CellsAt all from (joined cells xs) → map back (rows_from row cells from xs) ≡ xs
-unfolding rows_from joined
+    → (from : ℕ) (xs : List A) → AllByRecursion Good xs → CellsAt all from (flat_map cells xs) → map back (rows_from row cells from xs) ≡ xs
+unfolding rows_from
 rows_back row cells back Good all one from [] g h = refl
 rows_back row cells back Good all one from (x ∷ xs) g h =
-    let p = cells_parts all from (cells x) (joined cells xs) h in
+    let p = cells_parts all from (cells x) (flat_map cells xs) h in
     λ i. one x from g.0 p.0 i ∷ rows_back row cells back Good all one (from + length (cells x)) xs g.1 p.1 i
 
 all_true : {A : Type 0} (xs : List A) → AllByRecursion (λ x. Unit {0}) xs

@@ -58,13 +58,3 @@ write_bytes b out = cond (nat_le 2048 (length out)) (encode b ++ (replicate (204
 -- nothing stands past the used cells
 abbrev pub PastBlank : Table → Type 0
 PastBlank t = (i : ℕ) → t.store.used ≤ i → slice_index_or t.store.cells.now i blank_cell ≡ blank_cell
-
--- reading over blank rows: they hold the block, or a part of one at a fault
-pub record Loaded (s : Result BlockSyntax ReadFault) (t : Table) : Type 0 where
-  pub block : BlockSyntax
-  pub reads : s ≡ Ok block
-  pub holds : Holds t block
-
-abbrev pub Loads : Result BlockSyntax ReadFault → Table → Result (Unit {0}) ReadFault → Type 0
-Loads s t (Ok v) = Loaded s t
-Loads s t (Err e) = s ≡ Err e

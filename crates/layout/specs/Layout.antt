@@ -3,7 +3,7 @@ use Rattle.std.specs.Prelude.{ℕ, ◌+◌, List, [], ◌∷◌, map, length, ta
 use Rattle.arrayvec.specs.ArrayVec.{ArrayVec}
 use Rattle.syntax.specs.declared.cell.Cell.{Cell}
 use Rattle.syntax.specs.Syntax.{Expression, FormSyntax, EquationSyntax, NodeSyntax, BlockSyntax, plain, delay, call}
-use Rattle.syntax.specs.Encoder.{joined}
+use Rattle.std.specs.List.{flat_map}
 use Rattle.layout.specs.declared.node.Span.{Span}
 use Rattle.layout.specs.declared.node.Form.{Form}
 use Rattle.layout.specs.declared.node.Form.TheVariants.{Plain, Delay, Call}
@@ -15,7 +15,7 @@ abbrev pub whole : Expression → List Cell
 whole e = e
 
 abbrev pub arguments_cells : List Expression → List Cell
-arguments_cells es = joined whole es
+arguments_cells es = flat_map whole es
 
 abbrev pub form_cells : FormSyntax → List Cell
 form_cells (plain f e) = e
@@ -26,13 +26,13 @@ abbrev pub equation_cells : EquationSyntax → List Cell
 equation_cells e = form_cells e.form
 
 abbrev pub equations_cells : List EquationSyntax → List Cell
-equations_cells es = joined equation_cells es
+equations_cells es = flat_map equation_cells es
 
 abbrev pub node_cells : NodeSyntax → List Cell
 node_cells n = equations_cells n.equations
 
 abbrev pub block_cells : BlockSyntax → List Cell
-block_cells b = joined node_cells b
+block_cells b = flat_map node_cells b
 
 -- the rows of xs, whose cells stand one after another from `from` on
 unfoldable pub rows_from : {A B : Type 0} → (ℕ → A → B) → (A → List Cell) → ℕ → List A → List B

@@ -38,6 +38,7 @@ impl CellStore<'_> {
 }
 
 // Blanks the first `n` cells.
+#[tactic(auto, using(std::proofs::lemmas::List::places))]
 fn blank_first(cells: &mut [Cell], n: usize)
     ensures first { (i : ℕ) → i < n → slice_index_or cells.new i blank_cell ≡ blank_cell }
     ensures past { (i : ℕ) → n ≤ i → slice_index_or cells.new i blank_cell ≡ slice_index_or cells.old i blank_cell }

@@ -2,9 +2,11 @@ use crate::node::Node;
 use crate::store::CellStore;
 use arrayvec::ArrayVec;
 
+pub type Nodes = ArrayVec<Node, 8>;
+
 // The rows of a block: its nodes, and the cells of their expressions.
 #[derive(Drop)]
 pub struct Table<'m> {
-    pub nodes: ArrayVec<Node, 8>,
+    pub nodes: Nodes,
     pub store: CellStore<'m>,
 }

@@ -1,66 +1,64 @@
 // Plays a script from a file or from standard input, and prints a line for each call.
 #![tactic(auto)]
 
+ghost use Rattle.std.specs.Prelude.{OnSome, IfOk};
+ghost use Rattle.std.specs.Iterator.{IsFinite, IsNearerEnd, count_map};
+ghost use Rattle.std.specs.Iterator.Adapters.{peekable_can, peekable_source, peekable_peeked, items_left_with_peeked};
+
 use block::rows::Rows;
 use script::answer::answer_to;
 use script::command::Command;
-use script::fault::LineFault;
 use script::outcome::wrong_line;
 use script::parse::parse;
 use script::settings::{START, Settings};
-use std::alloc::{AllocError, Global};
 use std::io::Read;
+use std::iter::Peekable;
 use std::process::ExitCode;
 use std::{env, fs, io};
 use syntax::cell::Cell;
 
-// A line of a script, counted from 1, that has a word: what it asks for, or what is wrong with it.
-#[derive(Drop)]
-struct Line {
-    number: usize,
-    command: Result<Command, LineFault>,
-}
-
-impl Line {
-    fn is_setting(&self) -> bool {
-        matches!(self.command, Ok(Command::Set(_)))
+// Plays lines over new rows until one changes the settings, and gives the new settings; `None` where the lines end.
+// No rows are made where no line is left. Each line is parsed when its turn comes, so one command is held at a time.
+fn play_part<'a, L: Iterator<Item = (usize, &'a str)>>(
+    rt: &HostRuntime,
+    lines: &mut Peekable<L>,
+    settings: Settings,
+    wrong: &mut bool,
+) -> io::Result<Option<Settings>>
+    requires can { peekable_can L.can_next lines.old }
+    requires finite { IsFinite (L.remaining (peekable_source lines.old)) }
+    ensures { IfOk result (λ o. OnSome o (IsNearerEnd (peekable_can L.can_next) (λ s. count_map (items_left_with_peeked (peekable_peeked s)) (L.remaining (peekable_source s))) lines.old lines.new)) }
+{
+    if lines.peek().is_none() {
+        return Ok(None);
     }
-}
-
-fn lines_of(heap: Global, script: &str) -> Result<Vec<Line>, AllocError> {
-    let mut lines = Vec::new(heap);
-    for (index, text) in script.lines().enumerate() {
-        if let Some(command) = parse(heap, text).transpose() {
-            let number = index + 1;
-            lines.push(Line { number, command })?;
-        }
-    }
-    Ok(lines)
-}
-
-// Plays lines over new rows, and gives the settings after them.
-fn play_part(rt: &HostRuntime, lines: &[Line], settings: Settings) -> io::Result<Settings> {
     let heap = rt.alloc();
-    let mut settings = settings;
     let mut cells = vec![in heap; Cell::Flow(0); settings.tables.cells as usize]?;
     let mut rows = Rows::new(cells.as_mut_slice());
-    for line in lines {
-        match &line.command {
-            Ok(Command::Call(call)) => rt.println(answer_to(heap, &mut rows, call)?)?,
-            Ok(Command::Set(setting)) => settings = settings.with(*setting),
-            Err(fault) => rt.println(wrong_line(heap, line.number, *fault)?)?,
+    // tried: over a `for` the proof that fewer lines are left at the `return` did not close
+    while let Some((number, text)) = lines.next() {
+        match parse(heap, text) {
+            Ok(None) => {}
+            Ok(Some(Command::Call(call))) => rt.println(answer_to(heap, &mut rows, &call)?)?,
+            Ok(Some(Command::Set(setting))) => return Ok(Some(settings.with(setting))),
+            Err(fault) => {
+                *wrong = true;
+                rt.println(wrong_line(heap, number, fault)?)?;
+            }
         }
     }
-    Ok(settings)
+    Ok(None)
 }
 
-// Plays all lines. Each setting ends a part, since the rows are made anew after it.
-fn play(rt: &HostRuntime, lines: &[Line]) -> io::Result<()> {
+// Plays all lines, and says whether each was a call.
+fn play(rt: &HostRuntime, script: &str) -> io::Result<bool> {
+    let mut lines = (1..=usize::MAX).zip(script.lines()).peekable();
     let mut settings = START;
-    for part in lines.split_inclusive(|line| line.is_setting()) {
-        settings = play_part(rt, part, settings)?;
+    let mut wrong = false;
+    while let Some(next) = play_part(rt, &mut lines, settings, &mut wrong)? {
+        settings = next;
     }
-    Ok(())
+    Ok(!wrong)
 }
 
 // The file that the only argument names, or standard input where there is none.
@@ -90,9 +88,7 @@ fn run(rt: &HostRuntime) -> io::Result<ExitCode> {
         }
     };
     let text = String::from_utf8_lossy(rt.alloc(), script.as_slice())?;
-    let lines = lines_of(rt.alloc(), &text)?;
-    play(rt, lines.as_slice())?;
-    Ok(if lines.iter().all(|line| line.command.is_ok()) {
+    Ok(if play(rt, &text)? {
         ExitCode::SUCCESS
     } else {
         ExitCode::FAILURE

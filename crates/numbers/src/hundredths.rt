@@ -9,7 +9,7 @@ const LOW: i64 = -2_000_000_000;
 const HIGH: i64 = 2_000_000_000;
 
 // Hundredths: whole counts of hundredths from -2,000,000,000 to 2,000,000,000, held at these ends.
-#[derive(Clone, Copy)]
+#[derive(Clone, Copy, Debug, PartialEq, Eq)]
 pub struct Hundredths;
 
 // The number of the range that is nearest.

@@ -3,10 +3,10 @@ ghost use Rattle.numbers.specs.Points.{points};
 use crate::reckoning::Reckoning;
 
 // Whole points: signed numbers of 32 bits that wrap.
-#[derive(Clone, Copy)]
+#[derive(Clone, Copy, Debug, PartialEq, Eq)]
 pub struct WholePoints;
 
-#[tactic(auto, using(std::proofs::lemmas::Int::wraps))]
+#[tactic(auto, using(std::proofs::lemmas::Int::wraps, crate::proofs::Quotients::wraps_quotient))]
 impl Reckoning for WholePoints {
     type Num = i32;
 

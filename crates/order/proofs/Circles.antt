@@ -1,7 +1,6 @@
 -- Where everything waits there is a chain round.
-use Rattle.std.proofs.Common.{◌≡◌, ℕ, zero, suc, ◌<◌, Bool, true, false, sym, refl, ap, ◌∙◌, subst, arith}
-use native.Mathlib.Decide.{ℕ_discrete}
-use Rattle.std.proofs.lemmas.Bool.{both_ways}
+use Rattle.std.proofs.Common.{◌≡◌, ℕ, zero, suc, ◌<◌, Bool, true, false, ⊎_elim, sym, refl, ap, ◌∙◌, subst, arith}
+use Rattle.std.proofs.lemmas.Bool.{both_ways, cases_eq}
 use Rattle.rules.specs.Definitions.{ByChain}
 use Rattle.rules.specs.Definitions.ByChain.{step, onward}
 
@@ -16,30 +15,26 @@ module _ (R : ℕ → ℕ → Type 0) (u : ℕ → Bool) where
   Next n x = (y : ℕ) × (y < n) × (u y ≡ false) × ByChain R x y
 
   narrow : (n y : ℕ) → y < suc n → (y ≡ n → ⊥) → y < n
-  narrow n y h ne = by (ℕ_discrete y n)
-    where
-      by : Dec (y ≡ n) → y < n
-      by (yes e) = absurd (ne e)
-      by (no k) = omega arith
+  narrow n y h ne = omega (arith, ne)
 
   abbrev Circle : ℕ → Type 0
   Circle n = (x : ℕ) → x < n → u x ≡ false → ((x : ℕ) → x < n → u x ≡ false → Next n x) → (z : ℕ) × ByChain R z z
 
   -- past the last thing
   through : (n y : ℕ) → y < n → u y ≡ false → ByChain R n y → (z : ℕ) → Next (suc n) z → Next n z
-  through n y h e c z (w, k, f, d) = at (ℕ_discrete w n)
-    where
-      at : Dec (w ≡ n) → Next n z
-      at (yes p) = (y, h, e, chain_join (subst (ByChain R z) p d) c)
-      at (no p) = (w, narrow n w k p, f, d)
+  through n y h e c z (w, k, f, d) =
+      ⊎_elim
+      (λ (p : w ≡ n). (y, h, e, chain_join (subst (ByChain R z) p d) c))
+      (λ (p : w ≡ n → ⊥). (w, narrow n w k p, f, d))
+      (cases_eq w n)
 
   -- the last thing is one of them
   from_last : (n : ℕ) → Circle n → ((x : ℕ) → x < suc n → u x ≡ false → Next (suc n) x) → Next (suc n) n → (z : ℕ) × ByChain R z z
-  from_last n rec all (y, k, f, c) = at (ℕ_discrete y n)
-    where
-      at : Dec (y ≡ n) → (z : ℕ) × ByChain R z z
-      at (yes p) = (n, subst (ByChain R n) p c)
-      at (no p) = rec y (narrow n y k p) f (λ z hz ez. through n y (narrow n y k p) f c z (all z (omega arith) ez))
+  from_last n rec all (y, k, f, c) =
+      ⊎_elim
+      (λ (p : y ≡ n). (n, subst (ByChain R n) p c))
+      (λ (p : y ≡ n → ⊥). rec y (narrow n y k p) f (λ z hz ez. through n y (narrow n y k p) f c z (all z (omega arith) ez)))
+      (cases_eq y n)
 
   -- the last thing is none of them
   without : (n : ℕ) → u n ≡ true → (z : ℕ) → Next (suc n) z → Next n z

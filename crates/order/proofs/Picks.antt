@@ -1,7 +1,8 @@
 -- Picking one by one: what is picked is sorted, and what is left waits.
+use Rattle.bits.proofs.Lists.{read_replicated}
 use Rattle.std.proofs.Common.{◌≡◌, ℕ, ◌+◌, ◌<◌, ◌≤◌, Bool, true, false, IsTrue, ◌⊎◌, List, [], ◌∷◌, ◌++◌, length, get_or, set, replicate, sym, refl, ap, ◌∙◌, subst, inl, inr, arith, get_or-set_other, get_or-set_same, below_more}
-use Rattle.std.proofs.lemmas.Bool.{cases_eq, cases_lt, both_ways}
-use Rattle.std.proofs.lemmas.List.{get_or_append_left, get_or_push, get_or-replicate, get_or_past, length_push, length-replicate}
+use Rattle.std.proofs.lemmas.Bool.{cases_eq, both_ways}
+use Rattle.std.proofs.lemmas.List.{get_or_append_left, get_or_push, length_push}
 use Rattle.rules.specs.Definitions.{ByChain}
 use Rattle.rules.specs.Definitions.ByChain.{step, onward}
 use Rattle.order.specs.Picking.{marked, Waits, Free, Held, Stuck, Sorted}
@@ -39,20 +40,12 @@ pub record Picking (t : List (List Bool)) (order : List ℕ) (done : List Bool) 
   pub noted : (j : ℕ) → j < length order → IsTrue (marked done (get_or order j 0))
   pub count : left done (length t) + length order ≡ length t
 
--- nothing is marked in a list of no
-unmarked : (m x : ℕ) → marked (replicate m false) x ≡ false
-unmarked m x = by (cases_lt x m)
-  where
-    by : (x < m) ⊎ (m ≤ x) → marked (replicate m false) x ≡ false
-    by (inl l) = get_or-replicate m x false false l
-    by (inr l) = get_or_past (replicate m false) x false (omega (arith, length-replicate m false))
-
 pub picking_none : (t : List (List Bool)) (m : ℕ) → length t ≤ m → Picking t [] (replicate m false)
 picking_none t m h = record {
   inside = λ i l. absurd (omega arith);
   apart = λ i j l m e. absurd (omega arith);
   after = λ i l. absurd (omega arith);
-  known = λ x e. absurd (both_ways _ (unmarked m x) e);
+  known = λ x e. absurd (both_ways _ (read_replicated false m x) e);
   noted = λ j l. absurd (omega arith);
   count = omega (arith, left-replicate (length t) m h);
 }

@@ -2,13 +2,12 @@
 use Rattle.std.proofs.Common.{ℕ, ◌≡◌, Bool, ◌||◌, IsTrue, eqb, List, [], ◌∷◌, sym, refl, ap, ◌∙◌, eq-eqb, eqb-true}
 use Rattle.std.specs.List.{list_any}
 use Rattle.std.proofs.lemmas.List.Folds.{list_any-append, Any-from_list_any, list_any_at}
-use Rattle.syntax.specs.Encoder.{joined}
+use Rattle.std.specs.List.{flat_map}
 use Rattle.rules.specs.Every.{has}
 
-pub any-joined : {A B : Type 0} (p : B → Bool) (f : A → List B) (xs : List A) → list_any p (joined f xs) ≡ list_any (λ x. list_any p (f x)) xs
-unfolding joined
-any-joined p f [] = refl
-any-joined p f (x ∷ xs) = list_any-append p (f x) (joined f xs) ∙ ap (λ t. list_any p (f x) || t) (any-joined p f xs)
+pub any-flat_map : {A B : Type 0} (p : B → Bool) (f : A → List B) (xs : List A) → list_any p (flat_map f xs) ≡ list_any (λ x. list_any p (f x)) xs
+any-flat_map p f [] = refl
+any-flat_map p f (x ∷ xs) = list_any-append p (f x) (flat_map f xs) ∙ ap (λ t. list_any p (f x) || t) (any-flat_map p f xs)
 
 -- a number that passes is found where it stands
 pub any_finds : (p : ℕ → Bool) (xs : List ℕ) → IsTrue (list_any p xs) → (y : ℕ) × IsTrue (has y xs) × IsTrue (p y)

@@ -12,7 +12,7 @@ use rules::view::NodeView;
 use std::marker::Model;
 
 // No node has more equations.
-pub const MOST_EQUATIONS: usize = 23;
+pub const MOST_EQUATIONS: usize = layout::node::MOST_EQUATIONS;
 
 // Which equations wait on which: in the row of each a mark for each, whether it waits on that. So there are as many
 // marks in a row as rows.
@@ -37,6 +37,7 @@ fn row_of(view: &NodeView<'_>, equation: &Equation) -> ArrayVec<bool, MOST_EQUAT
     requires { length view.now.equations.now ≤ MOST_EQUATIONS }
     ensures { result.items ≡ map (waits_on (node_of view.now) (equation_in view.now.cells.now equation.now)) (node_of view.now).equations }
 {
+    // Pushed one by one, here and below: to collect takes an allocator.
     let mut row = ArrayVec::new();
     for on in view.equations {
         row.push(equation_waits(view, equation, on));
@@ -89,7 +90,8 @@ impl WaitTable {
         free_row(&self.rows, done)
     }
 
-    // All of them, each after those that it waits on; none where some wait on one another in a circle.
+    // All of them, each after those that it waits on; none where some wait on one another in a circle. The marks of what
+    // is done stand beside the rows, which stay as they are.
     pub fn order(&self) -> Option<ArrayVec<u8, MOST_EQUATIONS>>
         ensures { Settled self.now result }
     {

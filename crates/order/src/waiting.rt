@@ -1,5 +1,5 @@
 ghost use Rattle.std.specs.Prelude.{◌≡◌};
-ghost use Rattle.syntax.specs.Encoder.{joined};
+ghost use Rattle.std.specs.List.{flat_map};
 ghost use Rattle.layout.specs.Layout.{arguments_in, expression_in, form_in, equation_in};
 ghost use Rattle.rules.specs.Names.{cell_flows, chain};
 ghost use Rattle.rules.specs.Definitions.{cells_flows, form_needs};
@@ -22,6 +22,9 @@ fn cell_waits(cell: Cell, on: &Form) -> bool
     cell_flow(cell).is_some_and(|flow| defines(on, flow))
 }
 
+// The cells and the form that is waited on stay two parameters: a struct of them would hold two references and be made
+// at each call.
+
 // Whether an expression names a flow that the form defines.
 fn expression_waits(cells: &[Cell], span: Span, on: &Form) -> bool
     ensures { result ≡ defines_one on.now (cells_flows (expression_in cells.now span)) }
@@ -33,7 +36,7 @@ fn expression_waits(cells: &[Cell], span: Span, on: &Form) -> bool
 
 // Whether an argument of a call names one.
 fn arguments_wait(cells: &[Cell], arguments: &Arguments, on: &Form) -> bool
-    ensures { result ≡ defines_one on.now (joined cells_flows (arguments_in cells.now arguments.now)) }
+    ensures { result ≡ defines_one on.now (flat_map cells_flows (arguments_in cells.now arguments.now)) }
 {
     arguments
         .iter()

@@ -3,14 +3,16 @@ use layout::node::Span;
 use syntax::cell::UnaryOp;
 use syntax::header::{Constant, Kind};
 
-// One step of an expanded expression: a cell as it was read, but its flows go by their numbers in the program. As
-// `Cell<u16>` it would carry its parameter through each crate that reads, writes or examines cells, all of one width.
+// One step of an expanded expression: a cell as it was read, but its flows go by their numbers in the program. No
+// instance of one generic type with `Cell`: an alias could keep its parameter out of the code, but not out of the name
+// that the specifications and proofs of all the crates below say.
 #[derive(Clone, Copy, Debug, PartialEq, Eq)]
 pub enum WideCell {
     Flow(u16),
     Truth(bool),
     Number(i32),
     Unary(UnaryOp),
+    // By its code, as the cell has it.
     Binary(u8),
     When(u16, bool),
     Merge(u16),
@@ -20,7 +22,7 @@ pub enum WideCell {
 pub const BLANK_WIDE_CELL: WideCell = WideCell::Flow(0);
 
 // Where a flow's values come from.
-#[derive(Clone, Copy)]
+#[derive(Clone, Copy, Debug, PartialEq, Eq)]
 pub enum Source {
     Input,
     Plain(Span),
@@ -28,7 +30,7 @@ pub enum Source {
 }
 
 // A flow of the program. Rows stand in an order in which the flows can be worked out.
-#[derive(Clone, Copy)]
+#[derive(Clone, Copy, Debug, PartialEq, Eq)]
 pub struct FlowRow {
     pub flow: u16,
     pub kind: Kind,

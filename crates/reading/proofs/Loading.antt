@@ -15,7 +15,7 @@ use Rattle.layout.specs.declared.table.Table.{Table}
 use Rattle.layout.specs.Blanks.{blank_cell}
 use Rattle.layout.specs.Layout.{rows_from, node_row, node_cells, block_cells}
 use Rattle.layout.specs.Held.{Holds}
-use Rattle.layout.proofs.Lists.{joined_none, rows_none}
+use Rattle.layout.proofs.Lists.{rows_none}
 use Rattle.reading.specs.declared.reader.BlockReader.{BlockReader}
 use Rattle.reading.specs.Storing.{ended, Grown, Stored, vector_row, BlockStored}
 
@@ -46,20 +46,17 @@ module _ (c : CellStore) (r : BlockReader) (e : CellStore) (h : e ≡ r.store.no
 -- blank rows
 module _ (t : Table) (h : Holds t []) where
   pub none_used : t.store.used ≡ 0
-  none_used = h.used ∙ ap length (joined_none node_cells)
+  none_used = h.used
 
   none_cells : (i : ℕ) → get_or t.store.cells.now i blank_cell ≡ blank_cell
-  none_cells i = h.cells i ∙ ap (λ cs. get_or cs i blank_cell) (joined_none node_cells)
-
-  pub past_none : (c : CellStore) → Grown t.store c → (i : ℕ) → c.used ≤ i → get_or c.cells.now i blank_cell ≡ blank_cell
-  past_none c g i l = g.past i l ∙ none_cells i
+  none_cells i = h.cells i
 
 -- rows whose table is blank hold nothing
 pub holds_none : (t : Table) → t.nodes.items ≡ [] → t.store.used ≡ 0 → ((i : ℕ) → get_or t.store.cells.now i blank_cell ≡ blank_cell) → Holds t []
 holds_none t n u b = record {
   nodes = n ∙ sym (rows_none node_row node_cells 0);
-  used = u ∙ sym (ap length (joined_none node_cells));
-  cells = λ i. b i ∙ sym (ap (λ cs. get_or cs i blank_cell) (joined_none node_cells));
+  used = u;
+  cells = b;
   room = omega (arith, u);
 }
 

@@ -3,13 +3,13 @@ use Rattle.std.proofs.Common.{◌≡◌, ℕ, ◌+◌, ◌<◌, ◌≤◌, List,
 use Rattle.syntax.specs.declared.cell.Cell.{Cell}
 use Rattle.syntax.specs.declared.fault.ReadFault.{ReadFault}
 use Rattle.syntax.specs.Parse.{Parser, many}
-use Rattle.syntax.specs.Encoder.{joined}
+use Rattle.std.specs.List.{flat_map}
 use Rattle.bits.specs.Bits.{bits_of}
 use Rattle.bits.specs.Overwriting.{written}
 use Rattle.bits.proofs.Written.{written_none, written-push, written-append}
 use Rattle.layout.specs.Blanks.{blank_cell}
 use Rattle.layout.specs.Layout.{whole, rows_from}
-use Rattle.layout.proofs.Lists.{joined_none, joined-push, rows_none, rows_push}
+use Rattle.layout.proofs.Lists.{flat_map-push, rows_none, rows_push}
 use Rattle.reading.specs.declared.reader.BlockReader.{BlockReader}
 use Rattle.reading.specs.Storing.{Moved, TakesAs, ReadsInto, ReadsRows, only_cells}
 use Rattle.reading.proofs.Gathering.{Gathered, gathered_none, gathered_more, gathered_stops, gathered_all}
@@ -21,8 +21,8 @@ pub record Storing {A B : Type 0} (row : ℕ → A → B) (cells : A → List Ce
   pub gathered : Gathered p n (bits_of r₀.bytes.now) r₀.at k r.at items
   pub rows : out ≡ rows_from row cells r₀.store.now.used items
   pub long : length out ≡ k
-  pub held : r.store.now.cells.now ≡ written r₀.store.now.cells.now r₀.store.now.used (joined cells items)
-  pub fills : r.store.now.used ≡ r₀.store.now.used + length (joined cells items)
+  pub held : r.store.now.cells.now ≡ written r₀.store.now.cells.now r₀.store.now.used (flat_map cells items)
+  pub fills : r.store.now.used ≡ r₀.store.now.used + length (flat_map cells items)
   pub moved : Moved r₀ r
 
 pub storing_none : {A B : Type 0} (row : ℕ → A → B) (cells : A → List Cell) (p : Parser A) (n : ℕ) (r : BlockReader) → Storing row cells p n r 0 r []
@@ -31,8 +31,8 @@ storing_none row cells p n r = let c = r.store.now in record {
   gathered = gathered_none p n (bits_of r.bytes.now) r.at;
   rows = sym (rows_none row cells c.used);
   long = refl;
-  held = sym (ap (written c.cells.now c.used) (joined_none cells) ∙ written_none c.cells.now c.used);
-  fills = sym (ap (λ xs. c.used + length xs) (joined_none cells) ∙ add-zero c.used);
+  held = sym (written_none c.cells.now c.used);
+  fills = sym (add-zero c.used);
   moved = not_moved r;
 }
 
@@ -51,8 +51,8 @@ module _ {A B : Type 0} {row : ℕ → A → B} {cells : A → List Cell} {p : P
         held =
             s.held
             ∙ (λ i. written (f.held i) (f.fills i) (cells x))
-            ∙ sym (ap (written c₀.cells.now c₀.used) (joined-push cells f.items x) ∙ written-append c₀.cells.now c₀.used (joined cells f.items) (cells x));
-        fills = s.fills ∙ ap (λ j. j + length (cells x)) f.fills ∙ sym (ap (λ xs. c₀.used + length xs) (joined-push cells f.items x) ∙ simp length-append (omega arith));
+            ∙ sym (ap (written c₀.cells.now c₀.used) (flat_map-push cells f.items x) ∙ written-append c₀.cells.now c₀.used (flat_map cells f.items) (cells x));
+        fills = s.fills ∙ ap (λ j. j + length (cells x)) f.fills ∙ sym (ap (λ xs. c₀.used + length xs) (flat_map-push cells f.items x) ∙ simp length-append (omega arith));
         moved = moved_on f.moved u.moved;
       }
 

@@ -3,7 +3,7 @@ use Rattle.std.proofs.Common.{◌≡◌, ℕ, ◌+◌, List, [], ◌∷◌, leng
 use Rattle.syntax.specs.declared.cell.Cell.{Cell}
 use Rattle.syntax.specs.declared.fault.ReadFault.{ReadFault}
 use Rattle.syntax.specs.Parse.{Parser, ◌>>=◌, gives}
-use Rattle.syntax.specs.Encoder.{joined}
+use Rattle.std.specs.List.{flat_map}
 use Rattle.bits.specs.Bits.{bits_of}
 use Rattle.bits.specs.Overwriting.{written}
 use Rattle.bits.proofs.Written.{written_none}
@@ -56,10 +56,9 @@ unfolding rows_from
 rows_as_is from [] = refl
 rows_as_is from (x ∷ xs) = ap (λ ys. x ∷ ys) (rows_as_is (from + 0) xs)
 
-joined_no_cells : {A : Type 0} (xs : List A) → joined {A = A} no_cells xs ≡ []
-unfolding joined
-joined_no_cells [] = refl
-joined_no_cells (x ∷ xs) = joined_no_cells xs
+no_cells_at_all : {A : Type 0} (xs : List A) → flat_map {X = A} no_cells xs ≡ []
+no_cells_at_all [] = refl
+no_cells_at_all (x ∷ xs) = no_cells_at_all xs
 
 -- x was read, and the cells are as before
 record Passed {A : Type 0} (p : Parser A) (r r' : BlockReader) (x : A) : Type 0 where
@@ -75,7 +74,7 @@ passed_rows : {A : Type 0} {p : Parser (List A)} {r r' : BlockReader} {v : Array
 passed_rows {r = r} {r' = r'} t =
     let g = t.gives in
     let c = r.store.now in
-    let none = joined_no_cells g.item in
+    let none = no_cells_at_all g.item in
     record {
       moved = t.moved;
       gives = g.reads ∙ ap (λ xs. Ok (xs, r'.at)) (sym (ap (λ v. v.items) g.is ∙ rows_as_is c.used g.item));

@@ -5,7 +5,7 @@ use Rattle.syntax.specs.declared.fault.ReadFault.{ReadFault}
 use Rattle.syntax.specs.declared.fault.ReadFault.TheVariants.{Filling}
 use Rattle.syntax.specs.Syntax.{BlockSyntax}
 use Rattle.syntax.specs.Decoder.{fills}
-use Rattle.syntax.specs.Encoder.{joined}
+use Rattle.std.specs.List.{flat_map}
 use Rattle.syntax.specs.Parse.{Parser, ◌>>=◌, field, many}
 use Rattle.bits.specs.Bits.{bits_of}
 use Rattle.bits.specs.Overwriting.{written}
@@ -79,7 +79,7 @@ vector_row row cells from xs = record { items = rows_from row cells from xs }
 
 -- a call that read a list by p, and answered the rows of its items
 abbrev pub ReadsRows : {A B : Type 0} → (ℕ → A → B) → (A → List Cell) → Parser (List A) → BlockReader → BlockReader → Result (ArrayVec B) ReadFault → Type 0
-ReadsRows row cells p r r' a = ReadsInto (vector_row row cells) (joined cells) p r r' a
+ReadsRows row cells p r r' a = ReadsInto (vector_row row cells) (flat_map cells) p r r' a
 
 -- a block that was read as s says: the rows of its nodes, and its cells, for which there is room
 pub record BlockStored (s : Result BlockSyntax ReadFault) (c c' : CellStore) (v : ArrayVec Node) : Type 0 where

@@ -4,15 +4,15 @@ ghost use Rattle.layout.specs.Held.{Holds, PastBlank, read_answer, read_block};
 ghost use Rattle.reading.specs.Storing.{Grown, GivesBlock};
 
 use crate::reader::BlockReader;
-use arrayvec::ArrayVec;
-use layout::node::Node;
 use layout::store::CellStore;
-use layout::table::Table;
+use layout::table::{Nodes, Table};
 use syntax::fault::ReadFault;
 
 // No block has more cells, since each takes at least four of its bits.
 const MOST_CELLS: usize = 4096;
 
+// No block has more bytes. This number and the one above stand in each crate whose contracts have them, where a wrong one
+// is refused.
 const MOST_BYTES: usize = 2048;
 
 // Blanks the rows.
@@ -26,8 +26,8 @@ fn clear(table: &mut Table<'_>)
 }
 
 // Reads the nodes of a block, and its cells into a store that has none.
-#[tactic(auto, unfolding(syntax::specs::Decoder::decode))]
-fn nodes(bytes: &[u8], store: &mut CellStore<'_>) -> Result<ArrayVec<Node, 8>, ReadFault>
+#[tactic(auto, unfolding(syntax::specs::Decoder::decode), using(crate::proofs::Loading::grown_to))]
+fn nodes(bytes: &[u8], store: &mut CellStore<'_>) -> Result<Nodes, ReadFault>
     requires { store.old.used ≡ 0 }
     ensures gives { GivesBlock (decode_into (length store.old.cells.now) bytes.now) store.old store.new result }
     ensures grown { Grown store.old store.new }
@@ -49,6 +49,7 @@ fn nodes(bytes: &[u8], store: &mut CellStore<'_>) -> Result<ArrayVec<Node, 8>, R
 }
 
 // Reads a block; at a fault the rows are blank.
+#[tactic(auto, using(crate::proofs::Loading::none_used))]
 pub fn read(table: &mut Table<'_>, bytes: &[u8]) -> Result<(), ReadFault>
     requires { PastBlank table.old }
     ensures answer { result ≡ read_answer (decode_into (length table.old.store.cells.now) bytes.now) }
@@ -56,6 +57,7 @@ pub fn read(table: &mut Table<'_>, bytes: &[u8]) -> Result<(), ReadFault>
     ensures long { length table.new.store.cells.now ≡ length table.old.store.cells.now }
 {
     clear(table);
+    // A match and no `?`: at a fault the rows are blanked again.
     match nodes(bytes, &mut table.store) {
         Ok(nodes) => {
             table.nodes = nodes;

@@ -1,5 +1,5 @@
 -- The first place where a predicate fails.
-use Rattle.std.proofs.Common.{◌≡◌, List, ◌∷◌, ◌++◌, map, Some, None, Option, Result, sym, refl, ap, ◌∙◌}
+use Rattle.std.proofs.Common.{◌≡◌, List, ◌++◌, map, Some, None, Option, Result, sym, refl, ap, ◌∙◌}
 use Rattle.std.specs.Option.{option_map}
 use Rattle.rules.specs.declared.fault.ExamineFault.{ExamineFault}
 use Rattle.syntax.specs.Syntax.{BlockSyntax}
@@ -28,12 +28,6 @@ module _ {A : Type 0} {P : A → Type 0} where
 module _ {A : Type 0} (P : A → Type 0) (all : List A) where
   abbrev pub Left : List A → Type 0
   Left left = (r : Option A) → First P left r → First P all r
-
-  pub left_more : (x : A) (left : List A) → Left (x ∷ left) → P x → Left left
-  left_more x left w h r f = w r (holds h f)
-
-  pub left_stops : (x : A) (left : List A) → Left (x ∷ left) → (P x → ⊥) → First P all (Some x)
-  left_stops x left w h = w (Some x) (fails h)
 
   pub left_after : (xs left : List A) → Left (xs ++ left) → First P xs None → Left left
   left_after xs left w h r f = w r (first_after h f)

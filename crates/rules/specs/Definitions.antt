@@ -1,6 +1,6 @@
 -- Which flows are defined, how often, and by what.
 use Rattle.std.specs.Prelude.{◌≡◌, ℕ, ◌<◌, Bool, cond, T, List, [], ◌++◌, length, count_by, ◌≢◌, nat_eq, nat_lt, slice_index}
-use Rattle.syntax.specs.Encoder.{joined}
+use Rattle.std.specs.List.{flat_map}
 use Rattle.syntax.specs.Syntax.{Expression, FormSyntax, EquationSyntax, NodeSyntax, plain, delay, call}
 use Rattle.rules.specs.Every.{every_from, has}
 use Rattle.rules.specs.Names.{cell_flows, clock_flows, defined_by, equation_at}
@@ -11,7 +11,7 @@ times x ys = count_by (nat_eq x) ys
 
 -- all that a node's equations define
 abbrev pub defined : NodeSyntax → List ℕ
-defined n = joined (λ (e : EquationSyntax). defined_by e.form) n.equations
+defined n = flat_map (λ (e : EquationSyntax). defined_by e.form) n.equations
 
 -- an input is never defined, and every other flow is defined once
 abbrev pub defined_once : NodeSyntax → Bool
@@ -19,12 +19,12 @@ defined_once n = every_from (λ x f. nat_eq (times x (defined n)) (cond (nat_lt 
 
 -- the flows that cells name
 abbrev pub cells_flows : Expression → List ℕ
-cells_flows e = joined cell_flows e
+cells_flows e = flat_map cell_flows e
 
 abbrev pub form_needs : FormSyntax → List ℕ
 form_needs (plain f e) = cells_flows e
 form_needs (delay f v e) = []
-form_needs (call m rs es) = joined cells_flows es
+form_needs (call m rs es) = flat_map cells_flows es
 
 -- the flows that an equation needs at the same beat: those that its clock goes by, and those in its cells,
 -- unless it is a delay

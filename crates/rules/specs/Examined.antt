@@ -1,6 +1,6 @@
 -- What is asked of a block, in which order, and what examining answers.
 use Rattle.std.specs.Prelude.{◌≡◌, ℕ, zero, suc, ◌+◌, ◌&&◌, T, List, [], ◌∷◌, ◌++◌, map, length, Some, None, Ok, Err, Option, Result}
-use Rattle.syntax.specs.Encoder.{joined}
+use Rattle.std.specs.List.{flat_map}
 use Rattle.syntax.specs.Syntax.{EquationSyntax, NodeSyntax, BlockSyntax}
 use Rattle.rules.specs.declared.fault.Check.{Check}
 use Rattle.rules.specs.declared.fault.Check.TheVariants.{Fit, Shape, Kinds, Clocks, Definitions, Cycles, Size}
@@ -78,7 +78,7 @@ checks = Fit ∷ Shape ∷ Kinds ∷ Clocks ∷ Definitions ∷ Cycles ∷ Size 
 
 -- one check after another, each at every place
 abbrev pub questions : BlockSyntax → List Question
-questions b = joined (questions_of (places b)) checks
+questions b = flat_map (questions_of (places b)) checks
 
 abbrev pub answer_of : Option Question → Result (Unit {0}) ExamineFault
 answer_of None = Ok tt

@@ -5,8 +5,7 @@ use Rattle.syntax.specs.declared.cell.UnaryOp.TheVariants.{Not, Minus}
 use Rattle.syntax.specs.declared.header.Kind.{Kind}
 use Rattle.syntax.specs.declared.header.Kind.TheVariants as kind
 use Rattle.syntax.specs.declared.header.DerivedClock.{DerivedClock}
-use Rattle.syntax.specs.declared.header.Constant.{Constant}
-use Rattle.syntax.specs.declared.header.Constant.TheVariants as constant
+use Rattle.syntax.specs.Constants.{constant_kind}
 use Rattle.syntax.specs.Syntax.{FormSyntax, NodeSyntax, BlockSyntax, plain, delay, call}
 use Rattle.std.specs.List.{list_all}
 use Rattle.rules.specs.Every.{every_from}
@@ -66,10 +65,6 @@ control_kind n (choose c a b) = under_truth (exp_kind n c) (shared_kind (control
 abbrev pub kind_of : NodeSyntax → Option Control → Option Kind
 kind_of n None = None
 kind_of n (Some t) = control_kind n t
-
-abbrev pub constant_kind : Constant → Kind
-constant_kind (constant.Truth b) = kind.Truth
-constant_kind (constant.Number z) = kind.Number
 
 -- the flows of derived clocks are truths
 abbrev pub clocks_are_truths : NodeSyntax → Bool

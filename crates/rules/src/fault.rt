@@ -57,7 +57,8 @@ impl Check {
     }
 }
 
-// The second place of a fault where no equation is named.
+// The second place of a fault where no equation is named. A number and no `Option`: a host and a script are told so
+// (docs/REFUSALS.md).
 const NO_EQUATION: usize = 31;
 
 impl Place {

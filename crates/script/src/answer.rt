@@ -15,7 +15,7 @@ use std::alloc::{AllocError, Global};
 use syntax::cell::Cell;
 use syntax::fault::Fault;
 
-// No block has more cells, and none has more bytes.
+// No block has more cells, and none has more bytes: numbers of this crate, since contracts here have them.
 const BLOCK_CELLS: usize = 4096;
 
 const BLOCK_BYTES: usize = 2048;
@@ -27,7 +27,8 @@ fn block_cells(heap: Global) -> Result<Vec<Cell>, AllocError>
     vec![in heap; Cell::Flow(0); BLOCK_CELLS]
 }
 
-// What `list` prints of a block, which is read into rows of its own.
+// What `list` prints of a block, which is read into rows of its own. So does `examine_block`: where one function made
+// the rows for both, the closure that it lends them to would stand in its clause.
 fn list_block(heap: Global, bytes: &[u8]) -> Result<String, AllocError>
     ensures { IfOk result (λ s. ListTold (decode_into 4096 bytes.now) (string_bytes s)) }
 {

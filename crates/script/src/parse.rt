@@ -39,7 +39,8 @@ fn row_count(word: &str) -> Result<u32, LineFault>
     number(word, MOST_ROWS)
 }
 
-// What the words after a call's own say. They are a part of a line and no type, so there is no `TryFrom`.
+// What the words after a call's own say. Functions and no `TryFrom`, which would say no more and name the words' type
+// three times.
 fn system(words: &[&str]) -> Result<System, LineFault> {
     match words {
         ["compartments"] => Ok(System::Compartments),

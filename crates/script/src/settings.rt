@@ -11,7 +11,7 @@ pub struct Settings {
     pub tables: Tables,
 }
 
-// The tables are as long as any block may need. A constant and no `Default`: a contract can name its values.
+// The tables are as long as any block may need. A constant and no `Default`, whose `impl` would wrap the same lines.
 pub const START: Settings = Settings {
     system: System::Ranks { top: 255 },
     numbers: Numbers::Points,

@@ -4,7 +4,8 @@ use Rattle.std.proofs.lemmas.Bool.{eqb-true, eqb-false, ltb-true, lt-ltb, leb-tr
 use Rattle.syntax.specs.Syntax.{Expression, FormSyntax, EquationSyntax, NodeSyntax, BlockSyntax, plain, delay, call}
 use Rattle.syntax.specs.Parse.{field, many}
 use Rattle.syntax.specs.Decoder.{read_expression, read_constant, read_flow, read_clock, read_plain, read_delay, read_results, read_arguments, read_call, read_form, read_form_number, read_equation, read_count, read_equations, read_node, read_mark, read_fields}
-use Rattle.syntax.specs.Encoder.{Field, joined, expression_fields, constant_fields, flow_fields, clock_fields, result_fields, form_number, form_fields, equation_fields, equations_fields, node_fields, block_fields}
+use Rattle.std.specs.List.{flat_map}
+use Rattle.syntax.specs.Encoder.{Field, expression_fields, constant_fields, flow_fields, clock_fields, result_fields, form_number, form_fields, equation_fields, equations_fields, node_fields, block_fields}
 use Rattle.std.specs.List.{AllByRecursion}
 use Rattle.syntax.specs.Laws.{Counted, ExpressionFits, FormFits, EquationFits, NodeFits, Encodable}
 use Rattle.syntax.proofs.Standing.{AreBits, Stands, Made, made_ok, made_err, made_after, made_cond, stands_append, stands_parts, FieldFits}
@@ -154,8 +155,8 @@ node_back bits at h =
     made_after (read_equations bits m₆) _ (equations_back bits m₆ h) λ es q j.
     let inputs : i + 1 - 1 ≡ i = omega arith in
     let outputs : o + 1 - 1 ≡ o = omega arith in
-    let clocks = stands_append bits m₅ (joined clock_fields ds) _ m₆ q g.2 j.2 in
-    let flows = stands_append bits m₄ (joined flow_fields fs) _ m₅ q f.2 clocks in
+    let clocks = stands_append bits m₅ (flat_map clock_fields ds) _ m₆ q g.2 j.2 in
+    let flows = stands_append bits m₄ (flat_map flow_fields fs) _ m₅ q f.2 clocks in
     made_ok (
       record {
         inputs = (omega arith, omega (arith, a.0));
@@ -178,8 +179,8 @@ node_again bits at n q g s =
     let l = o.2 in
     let d = l.2 in
     let rest = equations_fields n.equations in
-    let f = stands_parts bits d.0 (joined flow_fields n.flows) (joined clock_fields n.clocks ++ rest) q d.2 in
-    let c = stands_parts bits f.0 (joined clock_fields n.clocks) rest q f.2 in
+    let f = stands_parts bits d.0 (flat_map flow_fields n.flows) (flat_map clock_fields n.clocks ++ rest) q d.2 in
+    let c = stands_parts bits f.0 (flat_map clock_fields n.clocks) rest q f.2 in
     let inputs : n.inputs - 1 + 1 ≡ n.inputs = omega (arith, g.inputs) in
     let outputs : n.outputs - 1 + 1 ≡ n.outputs = omega (arith, g.outputs) in
     rw (
@@ -198,8 +199,8 @@ node_again bits at n q g s =
 node_room : (n : NodeSyntax) → NodeFits n → AllByRecursion FieldFits (node_fields n)
 node_room n g =
     let equations : AllByRecursion FieldFits (equations_fields n.equations) = (omega (arith, g.few_equations), many_fits undoes_equation n.equations g.equations) in
-    let clocks = all_append FieldFits (joined clock_fields n.clocks) _ (many_fits undoes_clock n.clocks g.clocks) equations in
-    let flows = all_append FieldFits (joined flow_fields n.flows) _ (many_fits undoes_flow n.flows g.flows) clocks in
+    let clocks = all_append FieldFits (flat_map clock_fields n.clocks) _ (many_fits undoes_clock n.clocks g.clocks) equations in
+    let flows = all_append FieldFits (flat_map flow_fields n.flows) _ (many_fits undoes_flow n.flows g.flows) clocks in
     (omega (arith, g.inputs), (omega (arith, g.outputs), (omega (arith, g.locals), (omega (arith, g.few_clocks), flows))))
 
 pub undoes_node : Undoes read_node NodeFits node_fields

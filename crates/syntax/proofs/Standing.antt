@@ -6,7 +6,7 @@ use Rattle.syntax.specs.declared.fault.ReadFault.{ReadFault}
 use Rattle.bits.specs.Bits.{number_of, digits, field_at}
 use Rattle.bits.proofs.BitLists.{number_of-below, digits_number, number_digits, length_digits}
 use Rattle.syntax.specs.Parse.{Parser, after, field, found}
-use Rattle.syntax.specs.Encoder.{Field, joined, field_bits, fields_bits}
+use Rattle.syntax.specs.Encoder.{Field, field_bits, fields_bits}
 use Rattle.std.specs.List.{AllByRecursion}
 
 -- every element is 0 or 1
@@ -110,7 +110,6 @@ field_laid w bits at v m h e =
     sym (rw (s, ← z) (take-append-drop w (drop at bits)))
 
 pub stands_laid : (bits : List ℕ) (at : ℕ) (fs : List Field) (q : ℕ) → AreBits bits → at ≤ length bits → Stands bits at fs q → Laid bits at fs q
-unfolding joined
 stands_laid bits at [] q h l s = record { laid = rw s; inside = rw s at l }
 stands_laid bits at (f ∷ fs) q h l s =
     let r = field_gave f.0 bits at f.1 s.0 s.1 in
@@ -121,7 +120,6 @@ stands_laid bits at (f ∷ fs) q h l s =
 
 -- bits that are those of fields hold the fields
 pub laid_stands : (bits : List ℕ) (at : ℕ) (fs : List Field) (rest : List ℕ) → AllByRecursion FieldFits fs → at ≤ length bits → drop at bits ≡ fields_bits fs ++ rest → Stands bits at fs (at + length (fields_bits fs))
-unfolding joined
 laid_stands bits at [] rest g l e = omega arith
 laid_stands bits at (f ∷ fs) rest g l e =
     let more : List ℕ = fields_bits fs ++ rest in

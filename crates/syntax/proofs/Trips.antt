@@ -10,7 +10,7 @@ use Rattle.bits.proofs.BitLists.{length_bits, bits_of-bit, length_digits, digits
 use Rattle.bits.proofs.ByteLists.{length-bytes_of, bytes_of_bits, bytes_fill, bits_of-bytes_of}
 use Rattle.syntax.specs.Syntax.{BlockSyntax}
 use Rattle.syntax.specs.Decoder.{fills, decode}
-use Rattle.syntax.specs.Encoder.{Field, joined, field_bits, fields_bits, block_fields, encode}
+use Rattle.syntax.specs.Encoder.{Field, field_bits, fields_bits, block_fields, encode}
 use Rattle.syntax.specs.Laws.{Encodable, RoundTrip}
 use Rattle.syntax.proofs.Standing.{AreBits, stands_laid, laid_stands}
 use Rattle.syntax.proofs.BlockTrips.{undoes_block}
@@ -22,7 +22,6 @@ bits_append (x ∷ xs) ys a b zero = a 0
 bits_append (x ∷ xs) ys a b (suc i) = bits_append xs ys (λ j. a (suc j)) b i
 
 pub fields_bits_bits : (fs : List Field) → AreBits (fields_bits fs)
-unfolding joined
 fields_bits_bits [] i = omega arith
 fields_bits_bits (f ∷ fs) i = bits_append (field_bits f) (fields_bits fs) (digits-bit f.0 f.1) (fields_bits_bits fs) i
 
@@ -71,7 +70,6 @@ trip_back bytes b h e =
     (g, encode-some b g.0.0 ∙ sym fill ∙ ap bytes_of (sym d.2) ∙ bytes_of_bits bytes h)
 
 block_bits_least : (b : BlockSyntax) → 8 ≤ length (fields_bits (block_fields b))
-unfolding joined
 block_bits_least b = simp (length-append, length_digits) (omega arith)
 
 trip_again : (b : BlockSyntax) → Encodable b → length (encode b) ≤ 2048 → decode (encode b) ≡ Ok b

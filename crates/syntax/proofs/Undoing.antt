@@ -1,7 +1,8 @@
 -- Decoders and encoders that undo each other, and lists of what such a pair reads.
 use Rattle.std.proofs.Common.{◌≡◌, ℕ, zero, suc, ◌+◌, ◌-◌, ◌^◌, ◌<◌, List, [], ◌∷◌, ◌++◌, length, Ok, refl, ap, arith}
 use Rattle.syntax.specs.Parse.{Parser, ◌>>=◌, field, many}
-use Rattle.syntax.specs.Encoder.{Field, joined}
+use Rattle.std.specs.List.{flat_map}
+use Rattle.syntax.specs.Encoder.{Field}
 use Rattle.std.specs.List.{AllByRecursion}
 use Rattle.syntax.specs.Laws.{Counted}
 use Rattle.syntax.proofs.Standing.{AreBits, Stands, Made, made_ok, made_after, stands_append, stands_parts, field_below, FieldFits}
@@ -38,28 +39,27 @@ abbrev pub SomeGood : {A : Type 0} → ℕ → (A → Type 0) → List A → Typ
 SomeGood w Good xs = Counted 1 (2 ^ w) xs × AllByRecursion Good xs
 
 abbrev pub some_fields : {A : Type 0} → ℕ → (A → List Field) → List A → List Field
-some_fields w fields xs = (w, length xs - 1) ∷ joined fields xs
+some_fields w fields xs = (w, length xs - 1) ∷ flat_map fields xs
 
 module _ {A : Type 0} {p : Parser A} {Good : A → Type 0} {fields : A → List Field} (u : Undoes p Good fields) where
-  pub many_back : (n : ℕ) (bits : List ℕ) (at : ℕ) → AreBits bits → Made (many p n bits at) (λ xs q. (length xs ≡ n) × AllByRecursion Good xs × Stands bits at (joined fields xs) q)
-  unfolding many joined
+  pub many_back : (n : ℕ) (bits : List ℕ) (at : ℕ) → AreBits bits → Made (many p n bits at) (λ xs q. (length xs ≡ n) × AllByRecursion Good xs × Stands bits at (flat_map fields xs) q)
+  unfolding many
   many_back zero bits at h = made_ok (refl, tt, refl)
   many_back (suc n) bits at h =
       made_after (p bits at) _ (u.back bits at h) λ x m a.
       made_after (many p n bits m) _ (many_back n bits m h) λ xs q b.
-      made_ok (ap suc b.0, (a.0, b.1), stands_append bits at (fields x) (joined fields xs) m q a.1 b.2)
+      made_ok (ap suc b.0, (a.0, b.1), stands_append bits at (fields x) (flat_map fields xs) m q a.1 b.2)
 
-  pub many_again : (bits : List ℕ) (at : ℕ) (xs : List A) (q : ℕ) → AllByRecursion Good xs → Stands bits at (joined fields xs) q → many p (length xs) bits at ≡ Ok (xs, q)
-  unfolding many joined
+  pub many_again : (bits : List ℕ) (at : ℕ) (xs : List A) (q : ℕ) → AllByRecursion Good xs → Stands bits at (flat_map fields xs) q → many p (length xs) bits at ≡ Ok (xs, q)
+  unfolding many
   many_again bits at [] q g s = rw s
   many_again bits at (x ∷ xs) q g s =
-      let r = stands_parts bits at (fields x) (joined fields xs) q s in
+      let r = stands_parts bits at (fields x) (flat_map fields xs) q s in
       rw (u.again bits at x r.0 g.0 r.1, many_again bits r.0 xs q g.1 r.2)
 
-  pub many_fits : (xs : List A) → AllByRecursion Good xs → AllByRecursion FieldFits (joined fields xs)
-  unfolding joined
+  pub many_fits : (xs : List A) → AllByRecursion Good xs → AllByRecursion FieldFits (flat_map fields xs)
   many_fits [] g = tt
-  many_fits (x ∷ xs) g = all_append FieldFits (fields x) (joined fields xs) (u.fits x g.0) (many_fits xs g.1)
+  many_fits (x ∷ xs) g = all_append FieldFits (fields x) (flat_map fields xs) (u.fits x g.0) (many_fits xs g.1)
 
   some_back : (w : ℕ) (bits : List ℕ) (at : ℕ) → AreBits bits → Made (some_by w p bits at) (λ xs q. SomeGood w Good xs × Stands bits at (some_fields w fields xs) q)
   some_back w bits at h =

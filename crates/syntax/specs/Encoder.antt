@@ -12,17 +12,13 @@ use Rattle.syntax.specs.declared.header.Flow as flow
 use Rattle.syntax.specs.declared.header.DerivedClock.{DerivedClock}
 use Rattle.syntax.specs.declared.header.Constant.{Constant}
 use Rattle.syntax.specs.declared.header.Constant.TheVariants as constant
+use Rattle.std.specs.List.{flat_map}
 use Rattle.bits.specs.Bits.{digits, bytes_of}
 use Rattle.syntax.specs.Syntax.{Expression, FormSyntax, EquationSyntax, NodeSyntax, BlockSyntax, plain, delay, call}
 
 -- a field: its width in bits and its value
 abbrev pub Field : Type 0
 Field = ℕ × ℕ
-
--- the lists that f makes of xs, one after another
-unfoldable pub joined : {A B : Type 0} → (A → List B) → List A → List B
-joined f [] = []
-joined f (x ∷ xs) = f x ++ joined f xs
 
 abbrev pub unary_number : UnaryOp → ℕ
 unary_number Not = 0
@@ -41,7 +37,7 @@ cell_fields If = (4, 7) ∷ []
 
 -- an expression: its cells less one, and the cells
 abbrev pub expression_fields : Expression → List Field
-expression_fields e = (5, length e - 1) ∷ joined cell_fields e
+expression_fields e = (5, length e - 1) ∷ flat_map cell_fields e
 
 abbrev pub kind_number : Kind → ℕ
 kind_number kind.Truth = 0
@@ -65,11 +61,11 @@ result_fields f = (5, f) ∷ []
 
 -- the results of a call: how many less one, and their flows
 abbrev pub results_fields : List ℕ → List Field
-results_fields rs = (3, length rs - 1) ∷ joined result_fields rs
+results_fields rs = (3, length rs - 1) ∷ flat_map result_fields rs
 
 -- the arguments of a call: how many less one, and their expressions
 abbrev pub arguments_fields : List Expression → List Field
-arguments_fields es = (3, length es - 1) ∷ joined expression_fields es
+arguments_fields es = (3, length es - 1) ∷ flat_map expression_fields es
 
 abbrev pub form_number : FormSyntax → ℕ
 form_number (plain f e) = 0
@@ -88,24 +84,24 @@ equation_fields e = (2, form_number e.form) ∷ (3, e.clock) ∷ form_fields e.f
 
 -- the equations of a node: how many, and these
 abbrev pub equations_fields : List EquationSyntax → List Field
-equations_fields es = (5, length es) ∷ joined equation_fields es
+equations_fields es = (5, length es) ∷ flat_map equation_fields es
 
 -- a node: the counts, its flows, its derived clocks, and its equations
 abbrev pub node_fields : NodeSyntax → List Field
 node_fields n =
     (3, n.inputs - 1) ∷ (3, n.outputs - 1) ∷ (4, n.locals) ∷ (3, length n.clocks) ∷
-    (joined flow_fields n.flows ++ (joined clock_fields n.clocks ++ equations_fields n.equations))
+    (flat_map flow_fields n.flows ++ (flat_map clock_fields n.clocks ++ equations_fields n.equations))
 
 -- a block: the mark, nodes less one, and the nodes
 abbrev pub block_fields : BlockSyntax → List Field
-block_fields b = (8, 183) ∷ (3, length b - 1) ∷ joined node_fields b
+block_fields b = (8, 183) ∷ (3, length b - 1) ∷ flat_map node_fields b
 
 -- the bits of fields, one after another without a gap
 abbrev pub field_bits : Field → List ℕ
 field_bits f = digits f.0 f.1
 
 abbrev pub fields_bits : List Field → List ℕ
-fields_bits fs = joined field_bits fs
+fields_bits fs = flat_map field_bits fs
 
 -- the bytes of a block; a block with no node has none
 unfoldable pub encode : BlockSyntax → List ℕ

@@ -6,3 +6,4 @@ pub mod Encoder
 pub mod Laws
 pub mod Examples
 pub mod Words
+pub mod Constants

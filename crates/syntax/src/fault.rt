@@ -25,7 +25,8 @@ impl fmt::Display for Stage {
     }
 }
 
-// A refusal as it is told: its number, its stage and two places, 0 where a place says nothing.
+// A refusal as it is told: its number, its stage and two places, 0 where a place says nothing. Numbers and no enum, 0 and
+// no Option: a host and a script are told so (docs/REFUSALS.md).
 #[derive(Clone, Copy, Debug, PartialEq, Eq)]
 pub struct Fault {
     pub number: u8,

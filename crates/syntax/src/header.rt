@@ -1,5 +1,6 @@
 ghost use Rattle.std.specs.Prelude.{◌≡◌, Some};
 ghost use Rattle.std.specs.Int.{from_bool};
+ghost use Rattle.syntax.specs.Constants.{constant_kind};
 ghost use Rattle.syntax.specs.Decoder.{kind_of};
 ghost use Rattle.syntax.specs.Encoder.{kind_number};
 ghost use Rattle.syntax.specs.Words.{kind_word, constant_text};
@@ -63,6 +64,18 @@ pub struct DerivedClock {
 pub enum Constant {
     Truth(bool),
     Number(i32),
+}
+
+// The kind of a constant.
+impl From<Constant> for Kind {
+    ghost from_gives = { λ constant kind. kind ≡ constant_kind constant };
+
+    fn from(constant: Constant) -> Kind {
+        match constant {
+            Constant::Truth(_) => Kind::Truth,
+            Constant::Number(_) => Kind::Number,
+        }
+    }
 }
 
 impl fmt::Display for Constant {

@@ -34,11 +34,8 @@ pub fn side_clock(node: &NodeView<'_>, flow: u8, side: bool) -> Option<usize>
 pub fn when_clock(node: &NodeView<'_>, flow: u8, side: bool, part: Option<usize>) -> Option<usize>
     ensures { result ≡ when_clock (node_of node.now) flow side part }
 {
-    if part == Some(flow_clock(node, flow)) {
-        side_clock(node, flow, side)
-    } else {
-        None
-    }
+    shared(part, Some(flow_clock(node, flow)))?;
+    side_clock(node, flow, side)
 }
 
 // A true branch and a false one, each on its side, go on to the flow's clock.

@@ -3,6 +3,7 @@ ghost use Rattle.rules.specs.Kinds.{of_kind, unary_kind, binary_kind, under_trut
 ghost use Rattle.rules.specs.Names.{flow_kind};
 ghost use Rattle.rules.specs.Views.{node_of};
 
+use crate::shared::shared;
 use rules::view::NodeView;
 use rules::view::looking::flow_at;
 use syntax::cell::UnaryOp;
@@ -47,9 +48,6 @@ pub fn binary_kind(code: u8, a: Option<Kind>, b: Option<Kind>) -> Option<Kind>
 pub fn under_truth(decides: Option<Kind>, kind: Option<Kind>) -> Option<Kind>
     ensures { result ≡ under_truth decides kind }
 {
-    if decides == Some(Kind::Truth) {
-        kind
-    } else {
-        None
-    }
+    shared(decides, Some(Kind::Truth))?;
+    kind
 }

@@ -4,6 +4,6 @@
 pub mod clocks;
 pub mod kinds;
 pub mod part;
-mod shared;
+pub mod shared;
 mod waiting;
 pub mod walk;

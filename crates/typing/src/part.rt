@@ -11,7 +11,7 @@ use syntax::header::Kind;
 
 // What is known of an expression that waits for its operation: whether it is a merge or an if, and so may not
 // stand inside a plain expression, and the kind and clock that it has, if it has them.
-#[derive(Clone, Copy, Default)]
+#[derive(Clone, Copy, Debug, Default, PartialEq, Eq)]
 pub struct Part {
     pub control: bool,
     pub kind: Option<Kind>,
@@ -50,6 +50,7 @@ impl Part {
         }
     }
 
+    // By the operator's code, as the cell has it.
     pub fn binary(code: u8, a: Part, b: Part) -> Part
         ensures { result ≡ binary_part code a b }
     {

@@ -1,12 +1,12 @@
 -- A whole block is written.
-use Rattle.std.proofs.Common.{◌≡◌, ◌==◌, ℕ, ◌+◌, ◌-◌, ◌/◌, ◌≤◌, true, false, List, [], ◌∷◌, ◌++◌, map, length, drop, replicate, is_ok, Ok, Err, Result, sym, refl, ap, ◌∙◌, arith, length-append}
+use Rattle.std.proofs.Common.{◌≡◌, ◌==◌, ℕ, ◌+◌, ◌-◌, ◌/◌, ◌≤◌, true, false, List, [], ◌∷◌, ◌++◌, map, length, drop, replicate, is_ok, Ok, Err, Result, sym, refl, ap, ◌∙◌, arith, length-append, append_assoc}
 use lib.ListN.{length-map}
 use Rattle.std.specs.Int.{div_ceil}
 use Rattle.std.proofs.lemmas.Bool.{eqb-true, eqb-false, le-leb}
 use Rattle.bits.specs.Bits.{digits, bytes_of}
 use Rattle.bits.specs.Overwriting.{set_bits}
 use Rattle.bits.proofs.BitLists.{length_digits}
-use Rattle.bits.proofs.ByteLists.{length-bytes_of, set_bits_zeros}
+use Rattle.bits.proofs.ByteLists.{length-bytes_of, set_bits_over_zeros}
 use Rattle.bits.proofs.SetBits.{set_bits_none, set_bits-append}
 use Rattle.syntax.specs.declared.cell.Cell.{Cell}
 use Rattle.syntax.specs.declared.fault.ReadFault.{ReadFault}
@@ -20,21 +20,19 @@ use Rattle.layout.specs.Layout.{node_in}
 use Rattle.layout.specs.declared.table.Table.{Table}
 use Rattle.layout.specs.Held.{readable, block_in, write_answer, write_bytes}
 use Rattle.writing.specs.Writing.{size, put_fields}
-use Rattle.layout.proofs.Lists.{joined_none, joined_more}
 
 length_fields : (fs : List Field) → length (fields_bits fs) ≡ size fs
-length_fields [] = ap length (joined_none _)
+length_fields [] = refl
 length_fields (f ∷ fs) =
-    ap length (joined_more _ f fs)
-    ∙ simp length-append (λ i. length_digits f.0 f.1 i + length_fields fs i)
+    simp length-append (λ i. length_digits f.0 f.1 i + length_fields fs i)
 
 put_bits : (out : List ℕ) (at : ℕ) (fs : List Field) → put_fields out at fs ≡ set_bits out at (fields_bits fs)
-put_bits out at [] = sym (ap (set_bits out at) (joined_none _) ∙ set_bits_none out at)
+put_bits out at [] = sym (set_bits_none out at)
 put_bits out at (f ∷ fs) =
     let d = digits f.0 f.1 in
     put_bits (set_bits out at d) (at + f.0) fs
     ∙ ap (λ k. set_bits (set_bits out at d) (at + k) (fields_bits fs)) (sym (length_digits f.0 f.1))
-    ∙ sym (ap (set_bits out at) (joined_more _ f fs) ∙ set_bits-append out at d (fields_bits fs))
+    ∙ sym (set_bits-append out at d (fields_bits fs))
 
 encode_none : (b : BlockSyntax) → length b ≡ 0 → encode b ≡ []
 unfolding encode
@@ -55,10 +53,10 @@ pub readable_fits : (b : BlockSyntax) → readable b ≡ true → length (encode
 readable_fits [] h = omega (arith, ap length (encode_none [] refl))
 readable_fits (n ∷ ns) h = gave_most (encode (n ∷ ns)) (decode (encode (n ∷ ns))) refl h
 
--- the block of a table whose nodes are these rows
-pub block_of_rows : (t : Table) (rows : List Node) → rows ≡ t.nodes.items → block_in t ≡ map (node_in t.store.cells.now) rows
+-- the block of a table by its rows
+pub block_of_rows : (t : Table) → block_in t ≡ map (node_in t.store.cells.now) t.nodes.items
 unfolding block_in
-block_of_rows t rows p = ap (map (node_in t.store.cells.now)) (sym p)
+block_of_rows t = refl
 
 -- writing the block b of these rows
 module _ (cells : List Cell) (rows : List Node) (b : BlockSyntax) (e : b ≡ map (node_in cells) rows) where
@@ -96,9 +94,11 @@ module _ (cells : List Cell) (rows : List Node) (b : BlockSyntax) (e : b ≡ map
           let n : div_ceil (size (block_fields b)) 8 ≡ length (encode b) = omega (arith, bits) in
           rw (le-leb 2048 (length out) long, ← e) (ap Ok n)
 
-      pub some_bytes : put_fields (replicate 2048 0 ++ drop 2048 out) 0 (block_fields (map (node_in cells) rows)) ≡ write_bytes b out
+      pub some_bytes : put_fields (replicate 2048 0) 0 (block_fields (map (node_in cells) rows)) ++ drop 2048 out ≡ write_bytes b out
       some_bytes =
           let fs = block_fields b in
           let s = length_fields fs in
-          let z = set_bits_zeros 2048 (fields_bits fs) (drop 2048 out) (omega (arith, fit)) (fields_bits_bits fs) in
-          rw (le-leb 2048 (length out) long, ← e) (put_bits (replicate 2048 0 ++ drop 2048 out) 0 fs ∙ z ∙ sym (ap (λ bs. bs ++ (replicate (2048 - length bs) 0 ++ drop 2048 out)) bytes))
+          let rest = drop 2048 out in
+          let w = put_bits (replicate 2048 0) 0 fs ∙ set_bits_over_zeros 2048 (fields_bits fs) (omega (arith, fit)) (fields_bits_bits fs) in
+          let a = append_assoc (bytes_of (fields_bits fs)) (replicate (2048 - length (bytes_of (fields_bits fs))) 0) rest in
+          rw (le-leb 2048 (length out) long, ← e) (ap (λ zs. zs ++ rest) w ∙ a ∙ sym (ap (λ bs. bs ++ (replicate (2048 - length bs) 0 ++ drop 2048 out)) bytes))

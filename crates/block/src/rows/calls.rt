@@ -43,6 +43,7 @@ impl<'m> Rows<'m> {
     }
 
     // Writes the block and zeros over the first 2,048 bytes, and answers how many the block has.
+    #[tactic(auto, using(writing::proofs::Wholes::readable_fits))]
     pub fn write(&self, out: &mut [u8]) -> Result<usize, WriteFault>
         ensures answer { result ≡ write_answer (block_in self.now.table) (length out.old) }
         ensures bytes { out.new ≡ write_bytes (block_in self.now.table) out.old }

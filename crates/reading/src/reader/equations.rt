@@ -15,7 +15,7 @@ impl BlockReader<'_, '_, '_> {
     fn plain(&mut self) -> Result<Form, ReadFault>
         ensures { ReadsInto form_row form_cells read_plain self.old self.new result }
     {
-        let flow = self.take(5)? as u8;
+        let flow = self.flow()?;
         let cells = Span::read(self)?;
         Ok(Form::Plain { flow, cells })
     }
@@ -24,7 +24,7 @@ impl BlockReader<'_, '_, '_> {
     fn delay(&mut self) -> Result<Form, ReadFault>
         ensures { ReadsInto form_row form_cells read_delay self.old self.new result }
     {
-        let flow = self.take(5)? as u8;
+        let flow = self.flow()?;
         let first = self.constant()?;
         let cells = Span::read(self)?;
         Ok(Form::Delay { flow, first, cells })
@@ -34,7 +34,7 @@ impl BlockReader<'_, '_, '_> {
     fn call(&mut self) -> Result<Form, ReadFault>
         ensures { ReadsInto form_row form_cells read_call self.old self.new result }
     {
-        let node = self.take(3)? as u8;
+        let node = self.byte(3)?;
         let results = self.counted_rows()?;
         let arguments = self.counted_rows()?;
         Ok(Form::Call {
@@ -67,7 +67,7 @@ impl Row for Equation {
     #[tactic(auto, unfolding(syntax::specs::Decoder::read_equation))]
     fn read(reader: &mut BlockReader<'_, '_, '_>) -> Result<Equation, ReadFault> {
         let kind = reader.form_kind()?;
-        let clock = reader.take(3)? as u8;
+        let clock = reader.byte(3)?;
         let form = reader.form(kind)?;
         Ok(Equation { clock, form })
     }

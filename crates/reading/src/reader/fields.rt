@@ -1,4 +1,4 @@
-ghost use Rattle.std.specs.Prelude.{◌≡◌, ◌+◌, ◌^◌, ◌<◌, ◌≤◌, length, IfOk, OnOk};
+ghost use Rattle.std.specs.Prelude.{◌≡◌, ◌+◌, ◌-◌, ◌^◌, ◌<◌, ◌≤◌, length, IfOk, OnOk};
 ghost use Rattle.std.specs.Int.{from_bool};
 ghost use Rattle.bits.specs.Bits.{bits_of};
 ghost use Rattle.syntax.specs.Parse.{field};
@@ -21,6 +21,32 @@ impl BlockReader<'_, '_, '_> {
         };
         self.at += usize::from(width);
         Ok(value)
+    }
+
+    // So in a byte, where they are at most eight.
+    pub fn byte(&mut self, width: u8) -> Result<u8, ReadFault>
+        requires { width ≤ 8 }
+        ensures takes { Takes (field width) self.old self.new result }
+        ensures bound { IfOk result (λ v. v < 2 ^ width) }
+    {
+        Ok(self.take(width)? as u8)
+    }
+
+    // A count of at least one, which is written as one less.
+    pub fn count(&mut self, width: u8) -> Result<u8, ReadFault>
+        requires { width ≤ 7 }
+        ensures takes { TakesAs (λ n. n - 1) (field width) self.old self.new result }
+        ensures least { IfOk result (λ n. 1 ≤ n) }
+        ensures most { IfOk result (λ n. n ≤ 2 ^ width) }
+    {
+        Ok(self.byte(width)? + 1)
+    }
+
+    // The number of a flow.
+    pub fn flow(&mut self) -> Result<u8, ReadFault>
+        ensures { Takes (field 5) self.old self.new result }
+    {
+        self.byte(5)
     }
 
     // The next bit as a truth.

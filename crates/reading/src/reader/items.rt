@@ -1,5 +1,5 @@
 ghost use Rattle.std.specs.Prelude.{◌≡◌, ◌+◌, ◌≤◌, IfOk, OnOk};
-ghost use Rattle.syntax.specs.Decoder.{cell_parts, read_cell, read_constant, read_form_number, read_count, read_mark};
+ghost use Rattle.syntax.specs.Decoder.{read_cell, read_constant, read_form_number, read_count, read_mark};
 ghost use Rattle.reading.specs.Storing.{Takes, TakesAs, form_code};
 
 use crate::reader::BlockReader;
@@ -19,42 +19,35 @@ pub enum FormKind {
 // plainer, since its contract is longer than the tests.
 impl BlockReader<'_, '_, '_> {
     // A cell, by its operator.
-    fn cell_parts(&mut self) -> Result<Cell, ReadFault>
-        ensures takes { Takes cell_parts self.old self.new result }
-        ensures four { OnOk result (self.old.at + 4 ≤ self.new.at) }
-    {
-        let at = self.at;
-        match self.take(4)? {
-            0 => Ok(Cell::Flow(self.take(5)? as u8)),
-            1 => Ok(Cell::Truth(self.bit()?)),
-            2 => Ok(Cell::Number(self.take(32)?.cast_signed())),
-            3 => Ok(Cell::Unary(UnaryOp::from(self.bit()?))),
-            4 => {
-                let from = self.at;
-                let n = self.take(4)?;
-                if n < 9 {
-                    Ok(Cell::Binary(n as u8))
-                } else {
-                    Err(ReadFault::NoMeaning { bit: from })
-                }
-            }
-            5 => {
-                let flow = self.take(5)? as u8;
-                let side = self.bit()?;
-                Ok(Cell::When(flow, side))
-            }
-            6 => Ok(Cell::Merge(self.take(5)? as u8)),
-            7 => Ok(Cell::If),
-            _ => Err(ReadFault::NoMeaning { bit: at }),
-        }
-    }
-
     #[tactic(auto, unfolding(syntax::specs::Decoder::read_cell))]
     pub fn cell(&mut self) -> Result<Cell, ReadFault>
         ensures takes { Takes read_cell self.old self.new result }
         ensures four { OnOk result (self.old.at + 4 ≤ self.new.at) }
     {
-        self.cell_parts()
+        let at = self.at;
+        match self.take(4)? {
+            0 => Ok(Cell::Flow(self.flow()?)),
+            1 => Ok(Cell::Truth(self.bit()?)),
+            2 => Ok(Cell::Number(self.take(32)?.cast_signed())),
+            3 => Ok(Cell::Unary(UnaryOp::from(self.bit()?))),
+            4 => {
+                let from = self.at;
+                let n = self.byte(4)?;
+                if n < 9 {
+                    Ok(Cell::Binary(n))
+                } else {
+                    Err(ReadFault::NoMeaning { bit: from })
+                }
+            }
+            5 => {
+                let flow = self.flow()?;
+                let side = self.bit()?;
+                Ok(Cell::When(flow, side))
+            }
+            6 => Ok(Cell::Merge(self.flow()?)),
+            7 => Ok(Cell::If),
+            _ => Err(ReadFault::NoMeaning { bit: at }),
+        }
     }
 
     // The first value of a delay.
@@ -89,9 +82,9 @@ impl BlockReader<'_, '_, '_> {
         ensures bound { IfOk result (λ n. n ≤ 23) }
     {
         let at = self.at;
-        let n = self.take(5)?;
+        let n = self.byte(5)?;
         if (1..=23).contains(&n) {
-            Ok(n as u8)
+            Ok(n)
         } else {
             Err(ReadFault::NoMeaning { bit: at })
         }

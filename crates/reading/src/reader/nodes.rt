@@ -6,8 +6,8 @@ ghost use Rattle.reading.specs.Storing.{ReadsRows};
 
 use crate::reader::BlockReader;
 use crate::reader::rows::Row;
-use arrayvec::ArrayVec;
-use layout::node::{Equation, Node};
+use layout::node::{Equations, Node};
+use layout::table::Nodes;
 use syntax::fault::ReadFault;
 
 impl Row for Node {
@@ -21,10 +21,10 @@ impl Row for Node {
 
     #[tactic(auto, unfolding(syntax::specs::Decoder::read_node))]
     fn read(reader: &mut BlockReader<'_, '_, '_>) -> Result<Node, ReadFault> {
-        let inputs = reader.take(3)? as u8 + 1;
-        let outputs = reader.take(3)? as u8 + 1;
-        let locals = reader.take(4)? as u8;
-        let clocks = reader.take(3)? as u8;
+        let inputs = reader.count(3)?;
+        let outputs = reader.count(3)?;
+        let locals = reader.byte(4)?;
+        let clocks = reader.byte(3)?;
         let flows = reader.rows(inputs + outputs + locals)?;
         let clocks = reader.rows(clocks)?;
         let equations = reader.equations()?;
@@ -42,7 +42,7 @@ impl Row for Node {
 impl BlockReader<'_, '_, '_> {
     // The equations of a node.
     #[tactic(auto, unfolding(syntax::specs::Decoder::read_equations))]
-    fn equations(&mut self) -> Result<ArrayVec<Equation, 23>, ReadFault>
+    fn equations(&mut self) -> Result<Equations, ReadFault>
         ensures { ReadsRows equation_row equation_cells read_equations self.old self.new result }
     {
         let count = self.equation_count()?;
@@ -51,7 +51,7 @@ impl BlockReader<'_, '_, '_> {
 
     // The mark of a block, and its nodes.
     #[tactic(auto, unfolding(syntax::specs::Decoder::read_fields))]
-    pub fn nodes(&mut self) -> Result<ArrayVec<Node, 8>, ReadFault>
+    pub fn nodes(&mut self) -> Result<Nodes, ReadFault>
         ensures reads { ReadsRows node_row node_cells read_fields self.old self.new result }
         ensures same_store { self.new.store.ghost_name ≡ self.old.store.ghost_name }
     {

@@ -42,7 +42,7 @@ impl Row for Flow {
     #[tactic(auto, unfolding(syntax::specs::Decoder::read_flow))]
     fn read(reader: &mut BlockReader<'_, '_, '_>) -> Result<Flow, ReadFault> {
         let kind = Kind::from(reader.bit()?);
-        let clock = reader.take(3)? as u8;
+        let clock = reader.byte(3)?;
         Ok(Flow { kind, clock })
     }
 }
@@ -58,8 +58,8 @@ impl Row for DerivedClock {
 
     #[tactic(auto, unfolding(syntax::specs::Decoder::read_clock))]
     fn read(reader: &mut BlockReader<'_, '_, '_>) -> Result<DerivedClock, ReadFault> {
-        let parent = reader.take(3)? as u8;
-        let flow = reader.take(5)? as u8;
+        let parent = reader.byte(3)?;
+        let flow = reader.flow()?;
         let side = reader.bit()?;
         Ok(DerivedClock { parent, flow, side })
     }
@@ -76,7 +76,7 @@ impl Row for u8 {
     ghost cells = { no_cells };
 
     fn read(reader: &mut BlockReader<'_, '_, '_>) -> Result<u8, ReadFault> {
-        Ok(reader.take(5)? as u8)
+        reader.flow()
     }
 }
 
@@ -93,7 +93,7 @@ impl Row for Span {
     #[tactic(auto, unfolding(syntax::specs::Decoder::read_expression))]
     fn read(reader: &mut BlockReader<'_, '_, '_>) -> Result<Span, ReadFault> {
         let from = reader.store.used;
-        let len = reader.take(5)? as u8 + 1;
+        let len = reader.count(5)?;
         reader.cells(len)?;
         Ok(Span { from, len })
     }
@@ -122,11 +122,12 @@ impl BlockReader<'_, '_, '_> {
         requires { 8 ≤ N }
         ensures { ReadsRows T.row_of T.cells (counted T.decoder) self.old self.new result }
     {
-        let n = self.take(3)? as u8 + 1;
+        let n = self.count(3)?;
         self.rows(n)
     }
 
     // Reads `n` cells into the store. A loop of its own: they are no rows, and no vector holds them.
+    #[tactic(auto, using(crate::proofs::Loops::cells_none))]
     fn cells(&mut self, n: u8) -> Result<(), ReadFault>
         ensures { ReadsInto only_cells whole (many read_cell n) self.old self.new result }
     {

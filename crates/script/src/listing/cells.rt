@@ -10,6 +10,7 @@ pub struct Shown<'a> {
     pub cell: Cell,
 }
 
+// By its code, as the cell has it.
 pub fn binary_word(code: u8) -> &'static str {
     match code {
         0 => "and",

@@ -1,4 +1,5 @@
 use crate::listing::clocks::Chain;
+use crate::listing::joined;
 use crate::listing::names::flow_name;
 use crate::listing::node::NodeListing;
 use layout::node::Node;
@@ -31,21 +32,11 @@ impl NodeListing<'_, '_> {
     pub fn declarations(&self, from: usize, count: usize) -> Result<String, AllocError> {
         let node = self.node;
         let heap = self.heap;
-        let declarations: Vec<String> = node
-            .flows
-            .iter()
-            .enumerate()
-            .skip(from)
-            .take(count)
-            .map(|(number, flow)| {
-                Declaration {
-                    node,
-                    number,
-                    flow: *flow,
-                }
-                .to_string(heap)
-            })
-            .try_collect(heap)?;
-        declarations.join(heap, ", ")
+        let flows = node.flows.iter().enumerate().skip(from).take(count);
+        let declarations = flows.map(|(number, flow)| {
+            let flow = *flow;
+            Declaration { node, number, flow }.to_string(heap)
+        });
+        joined(heap, declarations, ", ")
     }
 }

@@ -1,3 +1,4 @@
+use crate::listing::joined;
 use crate::listing::node::NodeListing;
 use layout::node::{Equation, Form, Span};
 use std::alloc::AllocError;
@@ -5,19 +6,15 @@ use syntax::header::Constant;
 
 impl NodeListing<'_, '_> {
     fn results(&self, results: &[u8]) -> Result<String, AllocError> {
-        let names: Vec<String> = results
+        let names = results
             .iter()
-            .map(|flow| self.flow_name(*flow).to_string(self.heap))
-            .try_collect(self.heap)?;
-        names.join(self.heap, ", ")
+            .map(|flow| self.flow_name(*flow).to_string(self.heap));
+        joined(self.heap, names, ", ")
     }
 
     fn arguments(&self, arguments: &[Span]) -> Result<String, AllocError> {
-        let expressions: Vec<String> = arguments
-            .iter()
-            .map(|span| self.expression(*span))
-            .try_collect(self.heap)?;
-        expressions.join(self.heap, ", ")
+        let expressions = arguments.iter().map(|span| self.expression(*span));
+        joined(self.heap, expressions, ", ")
     }
 
     fn plain(&self, flow: u8, cells: Span) -> Result<String, AllocError> {

@@ -1,4 +1,5 @@
 use crate::listing::cells::{Shown, binary_word};
+use crate::listing::joined;
 use crate::listing::node::NodeListing;
 use layout::node::Span;
 use std::alloc::AllocError;
@@ -75,11 +76,10 @@ impl NodeListing<'_, '_> {
 
     // Cells that are no expression, one after another.
     fn postfix(&self, cells: &[Cell]) -> Result<String, AllocError> {
-        let words: Vec<String> = cells
+        let words = cells
             .iter()
-            .map(|cell| self.shown(*cell).to_string(self.heap))
-            .try_collect(self.heap)?;
-        let words = words.join(self.heap, " ")?;
+            .map(|cell| self.shown(*cell).to_string(self.heap));
+        let words = joined(self.heap, words, " ")?;
         format!(in self.heap; "?cells[{words}]")
     }
 

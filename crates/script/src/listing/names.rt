@@ -5,7 +5,7 @@ use layout::node::Node;
 use std::fmt;
 
 // The name of a node or of a flow: its place in its group, or its number where it is not there.
-#[derive(Clone, Copy)]
+#[derive(Clone, Copy, Debug, PartialEq, Eq)]
 pub enum Name {
     OfNode(usize),
     Input(usize),

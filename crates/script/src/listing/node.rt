@@ -4,7 +4,8 @@ use layout::node::Node;
 use std::alloc::{AllocError, Global};
 use std::fmt::Write;
 
-// A node of a block that was read.
+// A node of a block that was read. Texts and no `Display`: an expression takes memory of its own, and `fmt` could not
+// say that there is none.
 #[derive(Clone, Copy)]
 pub struct NodeListing<'a, 'm> {
     pub heap: Global,

@@ -1,6 +1,4 @@
-ghost use Rattle.std.specs.Prelude.{◌≡◌};
-ghost use Rattle.syntax.specs.Syntax.{Expression};
-ghost use Rattle.syntax.specs.Encoder.{expression_fields, results_fields, arguments_fields, form_fields, form_number, equation_fields};
+ghost use Rattle.syntax.specs.Encoder.{expression_fields, results_fields, arguments_fields, form_fields, equation_fields};
 ghost use Rattle.layout.specs.Layout.{expression_in, results_in, arguments_in, form_in, equation_in};
 
 use crate::writer::{BitWriter, Put};
@@ -65,22 +63,11 @@ impl Put for Form {
     }
 }
 
-// No `From`: the crate of neither type is this one.
-fn form_number(form: &Form) -> u32
-    ensures { (cells : Expression) → result ≡ form_number (form_in cells form.now) }
-{
-    match form {
-        Form::Plain { .. } => 0,
-        Form::Delay { .. } => 1,
-        Form::Call { .. } => 2,
-    }
-}
-
 impl Put for Equation {
     ghost fields = { λ cells equation. equation_fields (equation_in cells equation) };
 
     fn put(&self, writer: &mut BitWriter<'_>) {
-        writer.put(2, form_number(&self.form));
+        writer.put(2, u32::from(&self.form));
         writer.put(3, u32::from(self.clock));
         self.form.put(writer);
     }

@@ -1,13 +1,15 @@
 ghost use Rattle.std.specs.Prelude.{◌≡◌, ◌-◌, ◌≤◌, [], ◌∷◌, List, length};
 ghost use Rattle.syntax.specs.declared.cell.Cell.{Cell};
-ghost use Rattle.syntax.specs.Encoder.{Field, joined};
+ghost use Rattle.std.specs.List.{flat_map};
+ghost use Rattle.syntax.specs.Encoder.{Field};
 ghost use Rattle.writing.specs.Writing.{Room, Wrote};
 
-use crate::writer::BitWriter;
+use crate::writer::{BitWriter, MOST_BYTES};
 use bits::writing::put;
 use syntax::cell::Cell;
 
-// What is written as fields, given the cells that its expressions lie in.
+// What is written as fields, given the cells that its expressions lie in. Room is asked of each call, since it depends on
+// what is written: no field of the writer could say it.
 pub trait Put {
     ghost fields: { List Cell → Self → List Field };
 
@@ -17,8 +19,7 @@ pub trait Put {
 }
 
 impl<'a> BitWriter<'a> {
-    pub fn new(cells: &'a [Cell], out: &'a mut [u8]) -> BitWriter<'a>
-        requires { 2048 ≤ length out.old }
+    pub fn new(cells: &'a [Cell], out: &'a mut [u8; MOST_BYTES]) -> BitWriter<'a>
         ensures at { result.at ≡ 0 }
         ensures bytes { result.out.now ≡ out.old }
         ensures same_bytes { result.out.ghost_name ≡ out.entry.ghost_name }
@@ -29,14 +30,16 @@ impl<'a> BitWriter<'a> {
 }
 
 impl BitWriter<'_> {
-    // A field.
+    // A field. Its width is a number with a bound and no type of its own: wherever a width begins it is a constant, which
+    // the check sees.
     pub fn put(&mut self, width: u8, value: u32)
         requires narrow { width ≤ 32 }
         requires room { Room ((width, value) ∷ []) self.old }
         ensures { Wrote ((width, value) ∷ []) self.old self.new }
     {
         // `room` leaves no field out of range
-        put(self.out, self.at, width, value).unwrap();
+        let at = self.at;
+        put(self.out, at, width, value).unwrap();
         self.at += usize::from(width);
     }
 
@@ -51,9 +54,10 @@ impl BitWriter<'_> {
     }
 
     // One row after another.
+    #[tactic(auto, using(crate::proofs::Puts::wrote_none))]
     pub fn put_all<T: Put>(&mut self, rows: &[T])
-        requires { Room (joined (T.fields self.old.cells.now) rows.now) self.old }
-        ensures { Wrote (joined (T.fields self.old.cells.now) rows.now) self.old self.new }
+        requires { Room (flat_map (T.fields self.old.cells.now) rows.now) self.old }
+        ensures { Wrote (flat_map (T.fields self.old.cells.now) rows.now) self.old self.new }
     {
         for row in rows {
             row.put(self);
@@ -64,8 +68,8 @@ impl BitWriter<'_> {
     pub fn put_list<T: Put>(&mut self, width: u8, rows: &[T])
         requires narrow { width ≤ 32 }
         requires few { length rows.now ≤ 255 }
-        requires room { Room ((width, length rows.now - 1) ∷ joined (T.fields self.old.cells.now) rows.now) self.old }
-        ensures { Wrote ((width, length rows.now - 1) ∷ joined (T.fields self.old.cells.now) rows.now) self.old self.new }
+        requires room { Room ((width, length rows.now - 1) ∷ flat_map (T.fields self.old.cells.now) rows.now) self.old }
+        ensures { Wrote ((width, length rows.now - 1) ∷ flat_map (T.fields self.old.cells.now) rows.now) self.old self.new }
     {
         self.put_less_one(width, rows.len());
         self.put_all(rows);

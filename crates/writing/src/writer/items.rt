@@ -11,7 +11,7 @@ impl Put for Cell {
         match *self {
             Cell::Flow(n) => {
                 writer.put(4, 0);
-                writer.put(5, u32::from(n));
+                n.put(writer);
             }
             Cell::Truth(t) => {
                 writer.put(4, 1);
@@ -31,12 +31,12 @@ impl Put for Cell {
             }
             Cell::When(n, side) => {
                 writer.put(4, 5);
-                writer.put(5, u32::from(n));
+                n.put(writer);
                 writer.put(1, u32::from(side));
             }
             Cell::Merge(n) => {
                 writer.put(4, 6);
-                writer.put(5, u32::from(n));
+                n.put(writer);
             }
             Cell::If => writer.put(4, 7),
         }
@@ -57,7 +57,7 @@ impl Put for DerivedClock {
 
     fn put(&self, writer: &mut BitWriter<'_>) {
         writer.put(3, u32::from(self.parent));
-        writer.put(5, u32::from(self.flow));
+        self.flow.put(writer);
         writer.put(1, u32::from(self.side));
     }
 }

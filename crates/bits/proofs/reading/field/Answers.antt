@@ -1,6 +1,6 @@
-use Rattle.std.proofs.Common.{sym}
-use Rattle.bits.proofs.Fields.{field_none}
+use Rattle.std.proofs.Common.{◌∙◌, rules}
+use Rattle.bits.proofs.Fields.{field_of}
 use Rattle.bits.proofs.reading.field.Goals as goal
 
-pub returns-else-hold_field : goal.returns-else-hold_field
-returns-else-hold_field c = sym (field_none c.args.width c.args.bytes.now c.args.at (sym c.if-hold_field.ensures))
+pub returns : goal.returns
+returns c = field_of _ _ _ _ (c.then.ensures.variant ∙ c.hold_field.ensures) c.then.ensures.some (λ v p. search rules)

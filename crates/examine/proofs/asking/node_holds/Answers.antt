@@ -4,4 +4,5 @@ use Rattle.examine.proofs.asking.node_holds.Goals as goal
 
 pub returns-in-Cycles : goal.returns-in-Cycles
 returns-in-Cycles c =
-    cycle_decided c.args.block.now.view c.args.number (node_of c.args.node.now) c.args.check _ _ c.requires.inside c.requires.node c.in-Cycles.is c.has_no_cycle.ensures
+    let at = c.args.at.now in
+    cycle_decided at.block.view at.number (node_of at.node) c.args.check _ _ c.requires.inside c.requires.node c.in-Cycles.is c.has_no_cycle.ensures

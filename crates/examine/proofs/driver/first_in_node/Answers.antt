@@ -7,18 +7,15 @@ use Rattle.examine.proofs.driver.first_in_node.Goals as goal
 
 pub returns-then-not-node_holds : goal.returns-then-not-node_holds
 returns-then-not-node_holds c =
-    let made = c.by_number-at.ensures in
-    node_stops c.args.block.now.view c.args.check c.args.number c.by_number-at.result made.block made.number made.node _ c.node_holds.ensures c.if-not-node_holds.true
+    node_stops c.args.block.now.view c.args.check c.args.number c.by_number-at.result c.by_number-at.ensures _ c.node_holds.ensures c.if-not-node_holds.true
 
 pub returns-in_err-equation : goal.returns-in_err-equation
 returns-in_err-equation c =
     let b = block_of c.args.block.now.view in
     let k = c.args.number in
-    let made = c.by_number-at.ensures in
     subst (First (Holds b c.args.check) (node_places k (node_at b k))) (sym c.from_residual.ensures)
-    (node_goes_on c.args.block.now.view c.args.check k c.by_number-at.result made.block made.number made.node _ c.node_holds.ensures c.if-not-node_holds.false None c.in_err-equation.ensures)
+    (node_goes_on c.args.block.now.view c.args.check k c.by_number-at.result c.by_number-at.ensures _ c.node_holds.ensures c.if-not-node_holds.false None c.in_err-equation.ensures)
 
 pub returns : goal.returns
 returns c =
-    let made = c.by_number-at.ensures in
-    node_goes_on c.args.block.now.view c.args.check c.args.number c.by_number-at.result made.block made.number made.node _ c.node_holds.ensures c.if-not-node_holds.false (Some c.in_ok-equation.equation) c.in_ok-equation.ensures
+    node_goes_on c.args.block.now.view c.args.check c.args.number c.by_number-at.result c.by_number-at.ensures _ c.node_holds.ensures c.if-not-node_holds.false (Some c.in_ok-equation.equation) c.in_ok-equation.ensures

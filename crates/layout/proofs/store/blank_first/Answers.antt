@@ -1,8 +1,8 @@
-use Rattle.std.proofs.Common.{rules, ◌≡◌, ℕ, ◌<◌, ◌≤◌, min, List, ◌++◌, length, get_or, take, drop, replicate, ◌∙◌, ⊎_elim, arith, length-append, length-drop}
+use Rattle.std.proofs.Common.{◌≡◌, ℕ, ◌<◌, ◌≤◌, min, List, ◌++◌, length, get_or, take, drop, replicate, ◌∙◌, ⊎_elim, arith, length-append, length-drop}
 use lib.ListN.{length-replicate}
 use native.Mathlib.Nat.{min-le_left, min-le_right}
 use Rattle.std.proofs.lemmas.Bool.{cases_lt}
-use Rattle.std.proofs.lemmas.List.{places, get_or-replicate, get_or_past, get_or_append_left, length-take}
+use Rattle.std.proofs.lemmas.List.{get_or-replicate, get_or_past, get_or_append_left, length-take}
 use Rattle.layout.proofs.store.blank_first.Goals as goal
 
 -- with d over the first n elements, each of them is d, and so is what would stand past all
@@ -18,6 +18,3 @@ filled xs d n i h =
 
 pub returns-clause-first : goal.returns-clause-first
 returns-clause-first c = λ i h. rw (c.fill.ensures.after (λ y e. e), c.min-end.ensures) (filled c.args.cells.now _ c.args.n i h)
-
-pub returns-clause-past : goal.returns-clause-past
-returns-clause-past c = λ i h. search (rules, places)

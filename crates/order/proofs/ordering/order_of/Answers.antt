@@ -1,6 +1,5 @@
-use Rattle.std.proofs.Common.{◌≡◌, length, take, ap, ◌∙◌, subst, arith, rules}
-use Rattle.std.proofs.lemmas.List.{length-map, length-take}
-use Rattle.layout.specs.Layout.{equation_in, node_in}
+use Rattle.std.proofs.Common.{ap, ◌∙◌, subst}
+use Rattle.layout.specs.Layout.{node_in}
 use Rattle.order.specs.Table.{wait_rows}
 use Rattle.order.specs.Picking.{Settled}
 use Rattle.order.proofs.Answering.{answers}

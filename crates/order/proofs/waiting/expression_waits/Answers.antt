@@ -6,7 +6,7 @@ use Rattle.rules.specs.Every.{has}
 use Rattle.rules.specs.Names.{cell_flows}
 use Rattle.rules.specs.Views.{row_defines}
 use Rattle.order.specs.Waiting.{defines_one}
-use Rattle.order.proofs.Somes.{any-joined}
+use Rattle.order.proofs.Somes.{any-flat_map}
 use Rattle.order.proofs.waiting.expression_waits.Goals as goal
 
 pub returns : goal.returns
@@ -14,4 +14,4 @@ returns c =
     let f = c.args.on.now in
     let cells = expression_in c.args.cells.now c.args.span in
     any_from_yields_List (λ cell. defines_one f (cell_flows cell)) _ _ _ c.any.ensures.ran (YieldsList-from_slice cells cc) (λ x b q k. search (rules, tests))
-    ∙ sym (any-joined (λ y. has y (row_defines f)) cell_flows cells)
+    ∙ sym (any-flat_map (λ y. has y (row_defines f)) cell_flows cells)

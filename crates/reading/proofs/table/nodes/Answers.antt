@@ -2,14 +2,8 @@ use Rattle.std.proofs.Common.{◌≤◌, length, sym, ap, ◌∙◌, rules, arit
 use Rattle.std.proofs.lemmas.Bool.{eqb-false}
 use Rattle.bits.specs.Bits.{bits_of}
 use Rattle.reading.specs.Storing.{ended}
-use Rattle.reading.proofs.Loading.{reads_all, grown_to, block_to}
+use Rattle.reading.proofs.Loading.{reads_all, block_to}
 use Rattle.reading.proofs.table.nodes.Goals as goal
-
-pub returns-in_err-nodes-clause-grown : goal.returns-in_err-nodes-clause-grown
-returns-in_err-nodes-clause-grown c = grown_to _ c.nodes.new.self _ (search rules) (search rules)
-
-pub returns-in_err-filling-clause-grown : goal.returns-in_err-filling-clause-grown
-returns-in_err-filling-clause-grown c = grown_to _ c.nodes.new.self _ (search rules) (search rules)
 
 pub returns-clause-gives : goal.returns-clause-gives
 returns-clause-gives c =
@@ -18,6 +12,3 @@ returns-clause-gives c =
     let least : 1 ≤ length bytes = omega (arith, eqb-false (length bytes) 0 (sym c.if-is_empty.ensures)) in
     let end = ap (λ bs. ended (bits_of bs) c.nodes.new.self.at) (sym b.moved.bytes) ∙ sym c.in_ok-filling.ensures.ended in
     block_to _ c.nodes.new.self _ (search rules) (λ x e. reads_all _ bytes c.if-store-lt-MOST_CELLS.false least c.if-bytes-gt-MOST_BYTES.false x _ e end) b.gives
-
-pub returns-clause-grown : goal.returns-clause-grown
-returns-clause-grown c = grown_to _ c.nodes.new.self _ (search rules) (search rules)

@@ -1,8 +1,5 @@
-use Rattle.reading.proofs.Loading.{none_used, holds_loaded}
+use Rattle.reading.proofs.Loading.{holds_loaded}
 use Rattle.reading.proofs.table.read.Goals as goal
-
-pub nodes-requires : goal.nodes-requires
-nodes-requires c = none_used _ c.clear.ensures.blank
 
 pub returns-in-Ok-clause-rows : goal.returns-in-Ok-clause-rows
 returns-in-Ok-clause-rows c =

@@ -1,12 +1,7 @@
 use Rattle.std.proofs.Common.{◌≡◌, Some, ap, arith}
 use Rattle.std.specs.Fmt.{styled_digits_output}
-use Rattle.script.specs.Hex.{hex_of}
 use Rattle.script.proofs.Hexes.{byte_text, hex_more}
 use Rattle.script.proofs.hex.hex_of_bytes.Goals as goal
-
-pub loop-byte-init : goal.loop-byte-init
-unfolding hex_of
-loop-byte-init c = c.new-text.ensures.bytes
 
 pub loop-byte-preserved : goal.loop-byte-preserved
 loop-byte-preserved c =

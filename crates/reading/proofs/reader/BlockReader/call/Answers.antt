@@ -8,6 +8,6 @@ use Rattle.reading.proofs.reader.BlockReader.call.Goals as goal
 pub returns : goal.returns
 unfolding read_call read_results read_arguments
 returns c =
-    let n = c.in_ok-node.field-0 in
+    let n = c.in_ok-node.node in
     let rs = c.in_ok-results.results in
     then_take _ _ c.in_ok-node.ensures.takes (then_rows _ _ c.in_ok-results.ensures (ends_into _ _ (call n rs.items) c.in_ok-arguments.ensures (λ from x. ap (Call n rs)) (λ x. refl) (λ x. refl)))

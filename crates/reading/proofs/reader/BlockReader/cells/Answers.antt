@@ -1,10 +1,7 @@
 use Rattle.std.proofs.Common.{refl, arith}
 use Rattle.std.proofs.lemmas.Result.{err_from_is_err_and}
-use Rattle.reading.proofs.Loops.{cells_none, cells_more, cells_stops, cells_all}
+use Rattle.reading.proofs.Loops.{cells_more, cells_stops, cells_all}
 use Rattle.reading.proofs.reader.BlockReader.cells.Goals as goal
-
-pub loop-init : goal.loop-init
-loop-init c = cells_none _ _ _
 
 pub returns-in_err-cell : goal.returns-in_err-cell
 returns-in_err-cell c =

@@ -8,6 +8,6 @@ use Rattle.reading.proofs.reader.BlockReader.delay.Goals as goal
 pub returns : goal.returns
 unfolding read_delay
 returns c =
-    let f = c.in_ok-flow.field-0 in
+    let f = c.in_ok-flow.flow in
     let v = c.in_ok-first.first in
-    then_take _ _ c.in_ok-flow.ensures.takes (then_take _ _ c.in_ok-first.ensures (ends_into _ _ (delay f v) c.in_ok-cells.ensures (λ from x. ap (Delay f v)) (λ x. refl) (λ x. refl)))
+    then_take _ _ c.in_ok-flow.ensures (then_take _ _ c.in_ok-first.ensures (ends_into _ _ (delay f v) c.in_ok-cells.ensures (λ from x. ap (Delay f v)) (λ x. refl) (λ x. refl)))

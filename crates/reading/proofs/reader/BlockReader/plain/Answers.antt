@@ -7,4 +7,4 @@ use Rattle.reading.proofs.reader.BlockReader.plain.Goals as goal
 
 pub returns : goal.returns
 unfolding read_plain
-returns c = then_take _ _ c.in_ok-flow.ensures.takes (ends_into _ _ (plain c.in_ok-flow.field-0) c.in_ok-cells.ensures (λ from x. ap (Plain c.in_ok-flow.field-0)) (λ x. refl) (λ x. refl))
+returns c = then_take _ _ c.in_ok-flow.ensures (ends_into _ _ (plain c.in_ok-flow.flow) c.in_ok-cells.ensures (λ from x. ap (Plain c.in_ok-flow.flow)) (λ x. refl) (λ x. refl))

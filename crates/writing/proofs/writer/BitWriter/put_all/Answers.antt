@@ -1,8 +1,5 @@
-use Rattle.writing.proofs.Puts.{wrote_none, room_next, wrote_next}
+use Rattle.writing.proofs.Puts.{room_next, wrote_next}
 use Rattle.writing.proofs.writer.BitWriter.put_all.Goals as goal
-
-pub loop-row-init : goal.loop-row-init
-loop-row-init g c = wrote_none _ _
 
 pub put-requires : goal.put-requires
 put-requires g c = room_next g.T.Put.fields c.args.rows.now _ _ c.loop-row-test.true c.row-item.is _ _ c.loop-row.invariant c.requires

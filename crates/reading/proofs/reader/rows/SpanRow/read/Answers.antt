@@ -1,4 +1,4 @@
-use Rattle.std.proofs.Common.{sym, ap}
+use Rattle.std.proofs.Common.{◌≡◌, ◌+◌, ◌-◌, sym, ap, arith}
 use Rattle.syntax.specs.Decoder.{read_cell, read_expression}
 use Rattle.reading.proofs.Gathering.{many-counts}
 use Rattle.reading.proofs.Steps.{then_take}
@@ -11,7 +11,8 @@ returns c =
     let b = c.in_ok-cells.ensures in
     let f = b.gives in
     let n = many-counts read_cell _ _ _ f.item _ f.reads in
-    then_take _ _ a (record {
+    let same : c.in_ok-len.len - 1 + 1 ≡ c.in_ok-len.len = omega (arith, c.in_ok-len.ensures.least) in
+    then_take _ _ a (rw same record {
       moved = b.moved;
       gives = record {
         item = f.item;
