@@ -2,7 +2,7 @@
 use Rattle.std.proofs.Common.{◌≡◌, ℕ, zero, suc, ◌+◌, ◌-◌, ◌*◌, ◌/◌, ◌%◌, ◌^◌, ◌<◌, ◌≤◌, List, [], ◌∷◌, ◌++◌, map, length, get_or, replicate, sym, refl, ap, ◌∙◌, ⊎_elim, arith, length-append}
 use native.Mathlib.Nat.{zero-div}
 use lib.ListN.{length-replicate}
-use Rattle.std.proofs.lemmas.List.{ext_get_or, get_or_past}
+use Rattle.std.proofs.lemmas.List.{append_assoc, ext_get_or, get_or_past}
 use Rattle.std.proofs.lemmas.List.FromFn.{length-map-range_with_len, get_or-map-range_with_len}
 use Rattle.std.specs.List.{range_with_len}
 use Rattle.std.proofs.lemmas.Bool.{cases_lt}
@@ -11,7 +11,7 @@ use Rattle.bits.specs.Overwriting.{set_bits, written}
 use Rattle.bits.proofs.Lists.{map_same, read_replicated}
 use Rattle.bits.proofs.Written.{written_at, written_after}
 use Rattle.bits.proofs.BitLists.{length_bits, get_d_bits, length_digits, get_or-digits, number_digits, digits_number}
-use Rattle.bits.proofs.SetBits.{bytes_set_bits, bits_overwritten}
+use Rattle.bits.proofs.SetBits.{bytes_set_bits, bits_overwritten, set_bits_left}
 pub use Rattle.bits.proofs.SetBits.{length-set_bits, set_bits-append}
 
 -- as many bytes as the bits need
@@ -141,3 +141,10 @@ module _ (n : ℕ) (bs : List ℕ) (h : length bs ≤ 8 * n) (low : (i : ℕ) �
       let fits : Bytes put = bytes_set_bits zeros 0 bs zero_bytes low (omega arith) in
       ext_get_or 0 put (bytes_of bs ++ replicate left 0) (omega arith) (λ j _.
       sym (byte_at_bits put j (fits j)) ∙ byte_at_same (bits_of put) bs j bits_over_zeros ∙ sym (get_or-bytes bs j) ∙ sym (get_or-zeros (bytes_of bs) left j))
+
+-- bits put over zeros are the bytes that hold them, and the zeros after
+pub set_bits_zeros : (n : ℕ) (bs rest : List ℕ) → length bs ≤ 8 * n → ((i : ℕ) → get_or bs i 0 < 2) → set_bits (replicate n 0 ++ rest) 0 bs ≡ bytes_of bs ++ (replicate (n - length (bytes_of bs)) 0 ++ rest)
+set_bits_zeros n bs rest h low =
+    let zeros : List ℕ = replicate n 0 in
+    let k : length zeros ≡ n = length-replicate n 0 in
+    set_bits_left zeros rest 0 bs (omega arith) ∙ ap (λ xs. xs ++ rest) (set_bits_over_zeros n bs h low) ∙ append_assoc (bytes_of bs) (replicate (n - length (bytes_of bs)) 0) rest

@@ -1,6 +1,6 @@
 -- Bytes with some of their bits replaced.
 use Rattle.std.proofs.Common.{◌≡◌, ℕ, suc, ◌+◌, ◌-◌, ◌*◌, ◌/◌, ◌%◌, ◌^◌, ◌<◌, ◌≤◌, List, [], ◌∷◌, ◌++◌, length, get_or, set, sym, refl, ap, ◌∙◌, ⊎_elim, arith, length-set, get_or-set_other, get_or-set_same}
-use Rattle.std.proofs.lemmas.List.{ext_get_or}
+use Rattle.std.proofs.lemmas.List.{ext_get_or, set-append_left, get_or_append_left}
 use Rattle.std.proofs.lemmas.Bool.{cases_eq}
 use Rattle.bits.specs.Bits.{bits_of, Bytes}
 use Rattle.bits.specs.Overwriting.{with_bit, set_bit, set_bits, written, BitsOverwritten}
@@ -88,3 +88,13 @@ pub bytes_set_bits : (bytes : List ℕ) (at : ℕ) (bs : List ℕ) → Bytes byt
 unfolding set_bits
 bytes_set_bits bytes at [] h l u = h
 bytes_set_bits bytes at (b ∷ bs) h l u = bytes_set_bits (set_bit bytes at b) (at + 1) bs (bytes_set_bit bytes at b h (l 0) (omega arith)) (λ i. l (suc i)) (omega (arith, length-set_bit bytes at b))
+
+-- bytes after those that hold the bits stay as they are
+pub set_bits_left : (bytes rest : List ℕ) (at : ℕ) (bs : List ℕ) → at + length bs ≤ 8 * length bytes → set_bits (bytes ++ rest) at bs ≡ set_bits bytes at bs ++ rest
+unfolding set_bits
+set_bits_left bytes rest at [] h = refl
+set_bits_left bytes rest at (b ∷ bs) h =
+    let k : at / 8 < length bytes = omega arith in
+    let g : get_or (bytes ++ rest) (at / 8) 0 ≡ get_or bytes (at / 8) 0 = get_or_append_left bytes rest 0 (at / 8) k in
+    let e : set_bit (bytes ++ rest) at b ≡ set_bit bytes at b ++ rest = rw g (set-append_left bytes rest (at / 8) (with_bit (get_or bytes (at / 8) 0) (7 - at % 8) b) k) in
+    ap (λ x. set_bits x (at + 1) bs) e ∙ set_bits_left (set_bit bytes at b) rest (at + 1) bs (omega (arith, length-set_bit bytes at b))
