@@ -23,6 +23,14 @@ fn what_was_read_is_written(rt: HostRuntime) {
     let mut cells = [Cell::If; 4096];
     let mut rows = Rows::new(&mut cells);
     assert_eq!(rt; told(rows.read(&INVERTER)), None);
+    // copied out of the rows, with blanks past its flows
+    let node = rows.nodes().first().copied();
+    let flows = node.map(|node| (
+        node.flow_count(),
+        node.flows.len(),
+        node.flows.places().len(),
+    ));
+    assert_eq!(rt; flows, Some((2, 2, 31)));
     let mut out = [0xff; 2049];
     assert_eq!(rt; rows.write(&mut out).ok(), Some(9));
     assert_eq!(rt;

@@ -6,9 +6,9 @@ ghost use Rattle.rules.specs.Size.{cells_in, equations_size, form_size, main_sma
 ghost use Rattle.rules.specs.Views.{block_of, node_of};
 
 use crate::place::{NodeInHeld, is_main};
-use arrayvec::ArrayVec;
 use layout::node::{Arguments, Form, Span};
 use layout::parts::expression;
+use layout::up_to::{Blank, UpTo};
 use rules::view::looking::{node_view, view_of};
 use rules::view::{BlockView, HeldBlock, NodeView};
 use std::marker::Model;
@@ -30,6 +30,14 @@ impl Model for Size {
     ghost view = { λ s. record { flows = s.flows; cells = s.cells } };
 
     ghost inverse = { λ s. record { flows = s.flows; cells = s.cells } };
+}
+
+impl Blank for Size {
+    ghost blank = { no_size };
+
+    fn blank() -> Size {
+        Size { flows: 0, cells: 0 }
+    }
 }
 
 // An expansion may have at most so many flows and cells.
@@ -139,11 +147,11 @@ impl Sizing<'_> {
 }
 
 // The sizes of the nodes, each from those before it.
-fn sizes_of(block: &HeldBlock<'_>) -> ArrayVec<Size, 8>
+fn sizes_of(block: &HeldBlock<'_>) -> UpTo<Size, 8>
     ensures { result.items ≡ map capped_size (sizes (block_of block.now.view)) }
 {
     let block = block.view;
-    let mut sizes = ArrayVec::new();
+    let mut sizes = UpTo::new();
     for node in block.nodes {
         let sizing = Sizing {
             block,

@@ -1,6 +1,6 @@
 -- Rows that hold a block stand for it.
 use Rattle.std.proofs.Common.{◌≡◌, ℕ, ◌+◌, ◌≤◌, List, [], ◌∷◌, ◌++◌, map, length, take, drop, sym, refl, ap, ◌∙◌, arith}
-use Rattle.std.proofs.lemmas.List.{ext_get_or, get_or-take, length-take-le, drop-drop}
+use Rattle.std.proofs.lemmas.List.{ext_get_or, get_or-take, length-take-le, drop-drop, take_all}
 use Rattle.syntax.specs.declared.cell.Cell.{Cell}
 use Rattle.syntax.specs.Syntax.{Expression, FormSyntax, EquationSyntax, NodeSyntax, BlockSyntax, plain, delay, call}
 use Rattle.std.specs.List.{flat_map}
@@ -60,7 +60,7 @@ node_back all n from g c = λ i. record {
   inputs = n.inputs;
   outputs = n.outputs;
   locals = n.locals;
-  flows = n.flows;
+  flows = take_all (n.inputs + n.outputs + n.locals) n.flows (omega (arith, g.counted)) i;
   clocks = n.clocks;
   equations = rows_back equation_row equation_cells (equation_in all) EquationFits all (equation_back all) from n.equations g.equations c i;
 }

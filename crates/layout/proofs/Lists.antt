@@ -1,5 +1,5 @@
 -- Laws of the lists that rows are made of.
-use Rattle.std.proofs.Common.{◌≡◌, ℕ, ◌+◌, ◌-◌, ◌<◌, ◌≤◌, min, List, [], ◌∷◌, ◌++◌, length, take, drop, sym, refl, ap, ◌∙◌, ⊎_elim, append-nil, add-zero, arith, length-append}
+use Rattle.std.proofs.Common.{◌≡◌, ℕ, suc, ◌+◌, ◌-◌, ◌<◌, ◌≤◌, min, List, [], ◌∷◌, ◌++◌, length, take, drop, sym, refl, ap, ◌∙◌, ⊎_elim, append-nil, add-zero, arith, length-append}
 use native.Mathlib.Nat.{min-eq_left, min-eq_right}
 use Rattle.std.proofs.lemmas.List.{take_rest, drop_all}
 use Rattle.std.proofs.lemmas.Bool.{cases_lt}
@@ -14,6 +14,11 @@ flat_map-push f xs x = flat_map-append f xs (x ∷ []) ∙ ap (λ ys. flat_map f
 pub rows_none : {A B : Type 0} (row : ℕ → A → B) (cells : A → List Cell) (from : ℕ) → rows_from row cells from [] ≡ []
 unfolding rows_from
 rows_none row cells from = refl
+
+pub length_rows : {A B : Type 0} (row : ℕ → A → B) (cells : A → List Cell) (from : ℕ) (xs : List A) → length (rows_from row cells from xs) ≡ length xs
+unfolding rows_from
+length_rows row cells from [] = refl
+length_rows row cells from (x ∷ xs) = ap (λ n. suc n) (length_rows row cells (from + length (cells x)) xs)
 
 pub rows_push : {A B : Type 0} (row : ℕ → A → B) (cells : A → List Cell) (from : ℕ) (xs : List A) (x : A) → rows_from row cells from (xs ++ (x ∷ [])) ≡ rows_from row cells from xs ++ (row (from + length (flat_map cells xs)) x ∷ [])
 unfolding rows_from

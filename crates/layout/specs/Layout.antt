@@ -1,9 +1,9 @@
 -- The rows that hold a block, and the block that rows stand for.
 use Rattle.std.specs.Prelude.{ℕ, ◌+◌, List, [], ◌∷◌, map, length, take, drop}
-use Rattle.arrayvec.specs.ArrayVec.{ArrayVec}
 use Rattle.syntax.specs.declared.cell.Cell.{Cell}
 use Rattle.syntax.specs.Syntax.{Expression, FormSyntax, EquationSyntax, NodeSyntax, BlockSyntax, plain, delay, call}
 use Rattle.std.specs.List.{flat_map}
+use Rattle.layout.specs.Vectors.{Items}
 use Rattle.layout.specs.declared.node.Span.{Span}
 use Rattle.layout.specs.declared.node.Form.{Form}
 use Rattle.layout.specs.declared.node.Form.TheVariants.{Plain, Delay, Call}
@@ -43,10 +43,10 @@ rows_from row cells from (x ∷ xs) = row from x ∷ rows_from row cells (from +
 abbrev pub span_row : ℕ → Expression → Span
 span_row from e = record { from = from; len = length e }
 
-abbrev pub results_row : List ℕ → ArrayVec ℕ
+abbrev pub results_row : List ℕ → Items ℕ
 results_row rs = record { items = rs }
 
-abbrev pub arguments_row : ℕ → List Expression → ArrayVec Span
+abbrev pub arguments_row : ℕ → List Expression → Items Span
 arguments_row from es = record { items = rows_from span_row whole from es }
 
 abbrev pub form_row : ℕ → FormSyntax → Form
@@ -57,7 +57,7 @@ form_row from (call n rs es) = Call n (results_row rs) (arguments_row from es)
 abbrev pub equation_row : ℕ → EquationSyntax → Equation
 equation_row from e = record { clock = e.clock; form = form_row from e.form }
 
-abbrev pub equations_row : ℕ → List EquationSyntax → ArrayVec Equation
+abbrev pub equations_row : ℕ → List EquationSyntax → Items Equation
 equations_row from es = record { items = rows_from equation_row equation_cells from es }
 
 abbrev pub node_row : ℕ → NodeSyntax → Node
@@ -74,10 +74,10 @@ node_row from n = record {
 abbrev pub expression_in : List Cell → Span → Expression
 expression_in cells s = take s.len (drop s.from cells)
 
-abbrev pub results_in : ArrayVec ℕ → List ℕ
+abbrev pub results_in : Items ℕ → List ℕ
 results_in rs = rs.items
 
-abbrev pub arguments_in : List Cell → ArrayVec Span → List Expression
+abbrev pub arguments_in : List Cell → Items Span → List Expression
 arguments_in cells es = map (expression_in cells) es.items
 
 abbrev pub form_in : List Cell → Form → FormSyntax
@@ -88,7 +88,7 @@ form_in cells (Call n rs es) = call n (results_in rs) (arguments_in cells es)
 abbrev pub equation_in : List Cell → Equation → EquationSyntax
 equation_in cells e = record { clock = e.clock; form = form_in cells e.form }
 
-abbrev pub equations_in : List Cell → ArrayVec Equation → List EquationSyntax
+abbrev pub equations_in : List Cell → Items Equation → List EquationSyntax
 equations_in cells es = map (equation_in cells) es.items
 
 abbrev pub node_in : List Cell → Node → NodeSyntax
@@ -96,7 +96,7 @@ node_in cells n = record {
   inputs = n.inputs;
   outputs = n.outputs;
   locals = n.locals;
-  flows = n.flows.items;
+  flows = take (n.inputs + n.outputs + n.locals) n.flows.items;
   clocks = n.clocks.items;
   equations = equations_in cells n.equations;
 }

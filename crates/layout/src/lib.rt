@@ -5,3 +5,4 @@ pub mod node;
 pub mod parts;
 pub mod store;
 pub mod table;
+pub mod up_to;

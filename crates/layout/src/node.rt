@@ -1,11 +1,12 @@
-ghost use Rattle.std.specs.Prelude.{◌≡◌};
+ghost use Rattle.std.specs.Prelude.{◌≡◌, ◌+◌};
 ghost use Rattle.syntax.specs.Syntax.{Expression};
 ghost use Rattle.syntax.specs.Encoder.{form_number};
 ghost use Rattle.layout.specs.declared.node.Form.TheVariants.{Plain};
+ghost use Rattle.layout.specs.Blanks.{blank_clock, blank_equation, blank_flow, blank_node, blank_span};
 ghost use Rattle.layout.specs.Layout.{form_in};
 
-use arrayvec::ArrayVec;
-use syntax::header::{Constant, DerivedClock, Flow};
+use crate::up_to::{Blank, UpTo};
+use syntax::header::{Constant, DerivedClock, Flow, Kind};
 
 // The cells of an expression: where they begin among the cells of the block, and how many they are. They are places and
 // no slice, since the cells lie in the same rows and move with them.
@@ -15,15 +16,52 @@ pub struct Span {
     pub len: u8,
 }
 
+pub const BLANK_SPAN: Span = Span { from: 0, len: 0 };
+
+impl Blank for Span {
+    ghost blank = { blank_span };
+
+    fn blank() -> Span {
+        BLANK_SPAN
+    }
+}
+
+pub const BLANK_FLOW: Flow = Flow {
+    kind: Kind::Truth,
+    clock: 0,
+};
+
+impl Blank for Flow {
+    ghost blank = { blank_flow };
+
+    fn blank() -> Flow {
+        BLANK_FLOW
+    }
+}
+
+pub const BLANK_CLOCK: DerivedClock = DerivedClock {
+    parent: 0,
+    flow: 0,
+    side: false,
+};
+
+impl Blank for DerivedClock {
+    ghost blank = { blank_clock };
+
+    fn blank() -> DerivedClock {
+        BLANK_CLOCK
+    }
+}
+
 // The flows that a call defines, in the order of the callee's outputs.
-pub type Results = ArrayVec<u8, 8>;
+pub type Results = UpTo<u8, 8>;
 
 // The expressions that a call passes, in the order of the callee's inputs.
-pub type Arguments = ArrayVec<Span, 8>;
+pub type Arguments = UpTo<Span, 8>;
 
 // What an equation says: a flow is an expression; a flow is a first value and then, a beat late, an expression; or
 // results are what a node makes of arguments.
-#[derive(Clone, Debug, Drop, PartialEq, Eq)]
+#[derive(Clone, Copy, Debug, PartialEq, Eq)]
 pub enum Form {
     Plain {
         flow: u8,
@@ -65,24 +103,79 @@ impl From<&Form> for u32 {
     }
 }
 
-#[derive(Clone, Debug, Default, Drop, PartialEq, Eq)]
+#[derive(Clone, Copy, Debug, Default, PartialEq, Eq)]
 pub struct Equation {
     pub clock: u8,
     pub form: Form,
 }
 
+pub const BLANK_EQUATION: Equation = Equation {
+    clock: 0,
+    form: Form::Plain {
+        flow: 0,
+        cells: BLANK_SPAN,
+    },
+};
+
+impl Blank for Equation {
+    ghost blank = { blank_equation };
+
+    fn blank() -> Equation {
+        BLANK_EQUATION
+    }
+}
+
+// The derived clocks of a node, numbered from 1.
+pub type Clocks = UpTo<DerivedClock, 7>;
+
 pub const MOST_EQUATIONS: usize = 23;
 
-pub type Equations = ArrayVec<Equation, MOST_EQUATIONS>;
+pub type Equations = UpTo<Equation, MOST_EQUATIONS>;
 
 // A node: its flows are its inputs, then its outputs, then its locals; its derived clocks are numbered from 1. The three
 // counts stand beside the flows, since the format has them and flows alone do not say where one group ends.
-#[derive(Clone, Debug, Default, Drop, PartialEq, Eq)]
+#[derive(Clone, Copy, Debug, Default, PartialEq, Eq)]
 pub struct Node {
     pub inputs: u8,
     pub outputs: u8,
     pub locals: u8,
-    pub flows: ArrayVec<Flow, 31>,
-    pub clocks: ArrayVec<DerivedClock, 7>,
+    pub flows: UpTo<Flow, 31>,
+    pub clocks: Clocks,
     pub equations: Equations,
+}
+
+impl Node {
+    // How many flows its counts say that it has.
+    pub fn flow_count(&self) -> usize
+        ensures { result ≡ self.now.inputs + self.now.outputs + self.now.locals }
+    {
+        let locals = usize::from(self.locals);
+        usize::from(self.inputs) + usize::from(self.outputs) + locals
+    }
+}
+
+pub const BLANK_NODE: Node = Node {
+    inputs: 0,
+    outputs: 0,
+    locals: 0,
+    flows: UpTo {
+        places: [BLANK_FLOW; 31],
+        count: 0,
+    },
+    clocks: UpTo {
+        places: [BLANK_CLOCK; 7],
+        count: 0,
+    },
+    equations: UpTo {
+        places: [BLANK_EQUATION; MOST_EQUATIONS],
+        count: 0,
+    },
+};
+
+impl Blank for Node {
+    ghost blank = { blank_node };
+
+    fn blank() -> Node {
+        BLANK_NODE
+    }
 }

@@ -1,8 +1,8 @@
 use crate::node::Node;
 use crate::store::CellStore;
-use arrayvec::ArrayVec;
+use crate::up_to::UpTo;
 
-pub type Nodes = ArrayVec<Node, 8>;
+pub type Nodes = UpTo<Node, 8>;
 
 // The rows of a block: its nodes, and the cells of their expressions.
 #[derive(Drop)]

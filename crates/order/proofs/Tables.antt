@@ -7,7 +7,7 @@ use Rattle.std.proofs.lemmas.List.Folds.{Any-from_list_any, list_any_at}
 use Rattle.std.proofs.lemmas.List.Quantifiers.{position-Some}
 use Rattle.std.proofs.lemmas.List.Sums.{fails_before_first}
 use Rattle.std.proofs.lemmas.Slice.Zip.{get_or-zip, length-zip}
-use Rattle.arrayvec.specs.ArrayVec.{ArrayVec}
+use Rattle.layout.specs.Vectors.{Items}
 use Rattle.syntax.specs.Syntax.{NodeSyntax}
 use Rattle.rules.specs.Names.{equation_at, no_equation}
 use Rattle.order.specs.Waiting.{waits_on}
@@ -21,11 +21,11 @@ marked-wait_rows n x y hx hy =
     ∙ get_or-map (waits_on n (equation_at n x)) n.equations y no_equation false hy
 
 -- a row for each equation, and in each row a mark for each
-pub square-wait_rows : (n : NodeSyntax) (rows : List (ArrayVec Bool)) → map (λ row. row.items) rows ≡ wait_rows n → All (λ row. length row.items ≡ length rows) rows
+pub square-wait_rows : (n : NodeSyntax) (rows : List (Items Bool)) → map (λ row. row.items) rows ≡ wait_rows n → All (λ row. length row.items ≡ length rows) rows
 square-wait_rows n rows e k d l =
     let many : length rows ≡ length n.equations =
-    sym (length-map rows (λ (row : ArrayVec Bool). row.items)) ∙ ap length e ∙ length-map n.equations (λ e. map (waits_on n e) n.equations) in
-    ap length (sym (get_or-map (λ (row : ArrayVec Bool). row.items) rows k d [] l) ∙ ap (λ t. get_or t k []) e ∙ get_or-map (λ e. map (waits_on n e) n.equations) n.equations k no_equation [] (omega arith))
+    sym (length-map rows (λ (row : Items Bool). row.items)) ∙ ap length e ∙ length-map n.equations (λ e. map (waits_on n e) n.equations) in
+    ap length (sym (get_or-map (λ (row : Items Bool). row.items) rows k d [] l) ∙ ap (λ t. get_or t k []) e ∙ get_or-map (λ e. map (waits_on n e) n.equations) n.equations k no_equation [] (omega arith))
     ∙ length-map n.equations (waits_on n (equation_at n k))
     ∙ sym many
 
@@ -67,26 +67,26 @@ module _ (row done : List Bool) where
           (ap (λ p. p.0 && not p.1) (pair y hr hd) ∙ and_from _ _ m (not_from_false _ p))))
 
 -- what a search of the rows, beside what is done, finds
-module _ (rows : List (ArrayVec Bool)) (done : List Bool) (wide : length rows ≤ length done) (square : (x : ℕ) (d : ArrayVec Bool) → x < length rows → length (get_or rows x d).items ≡ length rows) where
+module _ (rows : List (Items Bool)) (done : List Bool) (wide : length rows ≤ length done) (square : (x : ℕ) (d : Items Bool) → x < length rows → length (get_or rows x d).items ≡ length rows) where
   abbrev table : List (List Bool)
   table = map (λ row. row.items) rows
 
-  abbrev is_next : ArrayVec Bool × Bool → Bool
+  abbrev is_next : Items Bool × Bool → Bool
   is_next p = not p.1 && not (is_held p.0.items done)
 
-  abbrev no_row : ArrayVec Bool
+  abbrev no_row : Items Bool
   no_row = record { items = [] }
 
   length-table : length table ≡ length rows
   length-table = length-map rows (λ row. row.items)
 
   length-row : (x : ℕ) → x < length rows → length (get_or table x []) ≡ length rows
-  length-row x h = ap length (get_or-map (λ (r : ArrayVec Bool). r.items) rows x no_row [] h) ∙ square x no_row h
+  length-row x h = ap length (get_or-map (λ (r : Items Bool). r.items) rows x no_row [] h) ∙ square x no_row h
 
   tested : (x : ℕ) → x < length rows → is_next (get_or (zip rows done) x (no_row, false)) ≡ (not (marked done x) && not (is_held (get_or table x []) done))
   tested x h =
       ap is_next (get_or-zip rows done x (no_row, false) h (omega arith))
-      ∙ ap (λ r. not (marked done x) && not (is_held r done)) (sym (get_or-map (λ (r : ArrayVec Bool). r.items) rows x no_row [] h))
+      ∙ ap (λ r. not (marked done x) && not (is_held r done)) (sym (get_or-map (λ (r : Items Bool). r.items) rows x no_row [] h))
 
   pub picks : (r : Option ℕ) → r ≡ position is_next (zip rows done) → Picked table done r
   picks (Some x) e =

@@ -1,7 +1,7 @@
 -- Things that wait on one another, and picking from them what waits no more.
 use Rattle.std.specs.Prelude.{◌≡◌, ℕ, ◌<◌, Bool, false, not, ◌&&◌, List, [], length, Some, None, Option, ◌≢◌, IsTrue, slice_index, slice_index_or, zip}
 use Rattle.std.specs.List.{list_any}
-use Rattle.arrayvec.specs.ArrayVec.{ArrayVec}
+use Rattle.layout.specs.Vectors.{Items}
 use Rattle.rules.specs.Definitions.{ByChain}
 
 -- there is a mark at x
@@ -42,6 +42,6 @@ pub record Sorted (t : List (List Bool)) (order : List ℕ) : Type 0 where
   pub after : (i : ℕ) → i < length order → (y : ℕ) → Waits t (slice_index order i) y → (j : ℕ) × (j < i) × (slice_index order j ≡ y)
 
 -- all are sorted, or one waits on itself by a chain
-abbrev pub Settled : List (List Bool) → Option (ArrayVec ℕ) → Type 0
+abbrev pub Settled : List (List Bool) → Option (Items ℕ) → Type 0
 Settled t (Some order) = Sorted t order.items
 Settled t None = (x : ℕ) × ByChain (Waits t) x x

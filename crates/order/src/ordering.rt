@@ -4,13 +4,13 @@ ghost use Rattle.rules.specs.Definitions.{NoCycle};
 ghost use Rattle.order.specs.Answers.{OrderAnswer};
 
 use crate::table::{MOST_EQUATIONS, WaitTable};
-use arrayvec::ArrayVec;
 use layout::node::Node;
+use layout::up_to::UpTo;
 use rules::view::looking::view_of;
 use syntax::cell::Cell;
 
 // An order of a node's equations: their numbers, each after all that define what it needs.
-pub type Order = ArrayVec<u8, MOST_EQUATIONS>;
+pub type Order = UpTo<u8, MOST_EQUATIONS>;
 
 // An order of the node's equations; none where a flow rests on itself.
 pub fn order_of(node: &Node, cells: &[Cell]) -> Option<Order>

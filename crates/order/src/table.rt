@@ -6,8 +6,8 @@ ghost use Rattle.order.specs.Picking.{is_held, Picked, Settled};
 ghost use Rattle.order.specs.Table.{wait_rows};
 
 use crate::waiting::equation_waits;
-use arrayvec::ArrayVec;
 use layout::node::Equation;
+use layout::up_to::UpTo;
 use rules::view::NodeView;
 use std::marker::Model;
 
@@ -18,27 +18,27 @@ pub const MOST_EQUATIONS: usize = layout::node::MOST_EQUATIONS;
 // marks in a row as rows.
 #[derive(Drop)]
 pub struct WaitTable {
-    rows: ArrayVec<ArrayVec<bool, MOST_EQUATIONS>, MOST_EQUATIONS>,
+    rows: UpTo<UpTo<bool, MOST_EQUATIONS>, MOST_EQUATIONS>,
 }
 
 impl Model for WaitTable {
     ghost use Rattle.std.specs.Prelude.{◌≡◌, Bool, List, length, map, All};
-    ghost use Rattle.arrayvec.specs.ArrayVec.{ArrayVec};
+    ghost use Rattle.layout.specs.Vectors.{Items};
 
     ghost Value = { List (List Bool) };
 
-    ghost view = { λ t. map (λ (row : ArrayVec Bool). row.items) t.rows.items };
+    ghost view = { λ t. map (λ (row : Items Bool). row.items) t.rows.items };
 
-    ghost invariant = { λ t. All (λ (row : ArrayVec Bool). length row.items ≡ length t.rows.items) t.rows.items };
+    ghost invariant = { λ t. All (λ (row : Items Bool). length row.items ≡ length t.rows.items) t.rows.items };
 }
 
 // Which equations one of them waits on.
-fn row_of(view: &NodeView<'_>, equation: &Equation) -> ArrayVec<bool, MOST_EQUATIONS>
+fn row_of(view: &NodeView<'_>, equation: &Equation) -> UpTo<bool, MOST_EQUATIONS>
     requires { length view.now.equations.now ≤ MOST_EQUATIONS }
     ensures { result.items ≡ map (waits_on (node_of view.now) (equation_in view.now.cells.now equation.now)) (node_of view.now).equations }
 {
     // Pushed one by one, here and below: to collect takes an allocator.
-    let mut row = ArrayVec::new();
+    let mut row = UpTo::new();
     for on in view.equations {
         row.push(equation_waits(view, equation, on));
     }
@@ -55,7 +55,7 @@ fn is_held(row: &[bool], done: &[bool]) -> bool
 }
 
 // The first row of what is not done and waits on nothing that is not.
-fn free_row(rows: &[ArrayVec<bool, MOST_EQUATIONS>], done: &[bool]) -> Option<usize>
+fn free_row(rows: &[UpTo<bool, MOST_EQUATIONS>], done: &[bool]) -> Option<usize>
     ensures { result ≡ position (λ (row, is_done). not is_done && not (is_held row.items done.now)) (zip rows.now done.now) }
 {
     rows.iter()
@@ -69,7 +69,7 @@ impl WaitTable {
         requires { length view.now.equations.now ≤ MOST_EQUATIONS }
         ensures { result ≡ wait_rows (node_of view.now) }
     {
-        let mut rows = ArrayVec::new();
+        let mut rows = UpTo::new();
         for equation in view.equations {
             rows.push(row_of(view, equation));
         }
@@ -92,11 +92,11 @@ impl WaitTable {
 
     // All of them, each after those that it waits on; none where some wait on one another in a circle. The marks of what
     // is done stand beside the rows, which stay as they are.
-    pub fn order(&self) -> Option<ArrayVec<u8, MOST_EQUATIONS>>
+    pub fn order(&self) -> Option<UpTo<u8, MOST_EQUATIONS>>
         ensures { Settled self.now result }
     {
         let mut done = [false; MOST_EQUATIONS];
-        let mut order = ArrayVec::new();
+        let mut order = UpTo::new();
         for _ in 0..self.len() {
             let x = self.next(&done)?;
             order.push(x as u8);

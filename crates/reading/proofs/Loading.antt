@@ -8,7 +8,7 @@ use Rattle.syntax.specs.Decoder.{read_fields, fills, filled, decode, decode_into
 use Rattle.bits.specs.Bits.{bits_of}
 use Rattle.bits.specs.Overwriting.{written}
 use Rattle.bits.proofs.Written.{written_at, written_after, length-written}
-use Rattle.arrayvec.specs.ArrayVec.{ArrayVec}
+use Rattle.layout.specs.Vectors.{Items}
 use Rattle.layout.specs.declared.node.Node.{Node}
 use Rattle.layout.specs.declared.store.CellStore.{CellStore}
 use Rattle.layout.specs.declared.table.Table.{Table}
@@ -37,7 +37,7 @@ module _ (c : CellStore) (r : BlockReader) (e : CellStore) (h : e ≡ r.store.no
   pub grown_to : Grown c r.store.now → Grown c e
   grown_to g = rw h g
 
-  pub block_to : {said : BlockSyntax → Type 0} {s : Result BlockSyntax ReadFault} {v : ArrayVec Node} → ((b : BlockSyntax) → said b → s ≡ Ok b) → Stored (vector_row node_row node_cells) block_cells said c r.store.now v → BlockStored s c e v
+  pub block_to : {said : BlockSyntax → Type 0} {s : Result BlockSyntax ReadFault} {v : Items Node} → ((b : BlockSyntax) → said b → s ≡ Ok b) → Stored (vector_row node_row node_cells) block_cells said c r.store.now v → BlockStored s c e v
   block_to f g = record {
     stored = record { item = g.item; reads = f g.item g.reads; is = g.is; held = rw h g.held; fills = rw h g.fills };
     room = rw h (omega (arith, r.taken, r.wide, r.within, r.short));
@@ -47,6 +47,9 @@ module _ (c : CellStore) (r : BlockReader) (e : CellStore) (h : e ≡ r.store.no
 module _ (t : Table) (h : Holds t []) where
   pub none_used : t.store.used ≡ 0
   none_used = h.used
+
+  pub none_read : t.nodes.items ≡ []
+  none_read = h.nodes ∙ rows_none node_row node_cells 0
 
   none_cells : (i : ℕ) → get_or t.store.cells.now i blank_cell ≡ blank_cell
   none_cells i = h.cells i
@@ -61,7 +64,7 @@ holds_none t n u b = record {
 }
 
 -- what was stored over blank rows is the block that they hold
-pub holds_loaded : (t : Table) (nodes : ArrayVec Node) (c : CellStore) {s : Result BlockSyntax ReadFault} → Holds t [] → (g : BlockStored s t.store c nodes) → Holds (record { nodes = nodes; store = c }) g.stored.item
+pub holds_loaded : (t : Table) (nodes : Items Node) (c : CellStore) {s : Result BlockSyntax ReadFault} → Holds t [] → (g : BlockStored s t.store c nodes) → Holds (record { nodes = nodes; store = c }) g.stored.item
 holds_loaded t nodes c h g =
     let f = g.stored in
     let room = g.room in

@@ -7,7 +7,7 @@ use Rattle.std.specs.List.{flat_map}
 use Rattle.bits.specs.Bits.{bits_of}
 use Rattle.bits.specs.Overwriting.{written}
 use Rattle.bits.proofs.Written.{written_none}
-use Rattle.arrayvec.specs.ArrayVec.{ArrayVec}
+use Rattle.layout.specs.Vectors.{Items}
 use Rattle.layout.specs.declared.store.CellStore.{CellStore}
 use Rattle.layout.specs.Blanks.{blank_cell}
 use Rattle.layout.specs.Layout.{rows_from}
@@ -70,7 +70,7 @@ record Passed {A : Type 0} (p : Parser A) (r r' : BlockReader) (x : A) : Type 0 
 passed_take : {A B : Type 0} {number : B → A} {p : Parser A} {r r' : BlockReader} {v : B} → TakesAs number p r r' (Ok v) → Passed p r r' (number v)
 passed_take t = record { moved = takes_moved t; gives = t.gives; cells = ap (λ s. s.now.cells.now) t.store; used = ap (λ s. s.now.used) t.store }
 
-passed_rows : {A : Type 0} {p : Parser (List A)} {r r' : BlockReader} {v : ArrayVec A} → ReadsRows as_is no_cells p r r' (Ok v) → Passed p r r' v.items
+passed_rows : {A : Type 0} {p : Parser (List A)} {r r' : BlockReader} {v : Items A} → ReadsRows as_is no_cells p r r' (Ok v) → Passed p r r' v.items
 passed_rows {r = r} {r' = r'} t =
     let g = t.gives in
     let c = r.store.now in
@@ -115,5 +115,5 @@ module _ {A C D : Type 0} {row : ℕ → C → D} {cells : C → List Cell} (p :
 
 module _ {A C D : Type 0} {row : ℕ → C → D} {cells : C → List Cell} (p : Parser (List A)) (k : List A → Parser C) {r q : BlockReader} where
   -- a vector of items that have no cells, and then what is stored
-  pub then_rows : {v : ArrayVec A} {r' : BlockReader} {a : Result D ReadFault} → ReadsRows as_is no_cells p r q (Ok v) → ReadsInto row cells (k v.items) q r' a → ReadsInto row cells (◌>>=◌ p k) r r' a
+  pub then_rows : {v : Items A} {r' : BlockReader} {a : Result D ReadFault} → ReadsRows as_is no_cells p r q (Ok v) → ReadsInto row cells (k v.items) q r' a → ReadsInto row cells (◌>>=◌ p k) r r' a
   then_rows t u = then_passed p k (passed_rows t) u

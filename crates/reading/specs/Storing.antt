@@ -9,7 +9,7 @@ use Rattle.std.specs.List.{flat_map}
 use Rattle.syntax.specs.Parse.{Parser, ◌>>=◌, field, many}
 use Rattle.bits.specs.Bits.{bits_of}
 use Rattle.bits.specs.Overwriting.{written}
-use Rattle.arrayvec.specs.ArrayVec.{ArrayVec}
+use Rattle.layout.specs.Vectors.{Items}
 use Rattle.layout.specs.declared.store.CellStore.{CellStore}
 use Rattle.layout.specs.Blanks.{blank_cell}
 use Rattle.layout.specs.declared.node.Node.{Node}
@@ -74,19 +74,24 @@ abbrev pub no_cells : {A : Type 0} → A → List Cell
 no_cells x = []
 
 -- a vector of the rows of items
-abbrev pub vector_row : {A B : Type 0} → (ℕ → A → B) → (A → List Cell) → ℕ → List A → ArrayVec B
+abbrev pub vector_row : {A B : Type 0} → (ℕ → A → B) → (A → List Cell) → ℕ → List A → Items B
 vector_row row cells from xs = record { items = rows_from row cells from xs }
 
+-- the answer of a call that made a vector where it lies
+abbrev pub made : {A : Type 0} → Result (Unit {0}) ReadFault → Items A → Result (Items A) ReadFault
+made (Ok _) v = Ok v
+made (Err e) v = Err e
+
 -- a call that read a list by p, and answered the rows of its items
-abbrev pub ReadsRows : {A B : Type 0} → (ℕ → A → B) → (A → List Cell) → Parser (List A) → BlockReader → BlockReader → Result (ArrayVec B) ReadFault → Type 0
+abbrev pub ReadsRows : {A B : Type 0} → (ℕ → A → B) → (A → List Cell) → Parser (List A) → BlockReader → BlockReader → Result (Items B) ReadFault → Type 0
 ReadsRows row cells p r r' a = ReadsInto (vector_row row cells) (flat_map cells) p r r' a
 
 -- a block that was read as s says: the rows of its nodes, and its cells, for which there is room
-pub record BlockStored (s : Result BlockSyntax ReadFault) (c c' : CellStore) (v : ArrayVec Node) : Type 0 where
+pub record BlockStored (s : Result BlockSyntax ReadFault) (c c' : CellStore) (v : Items Node) : Type 0 where
   pub stored : Stored (vector_row node_row node_cells) block_cells (λ b. s ≡ Ok b) c c' v
   pub room : c'.used ≤ length c'.cells.now
 
-abbrev pub GivesBlock : Result BlockSyntax ReadFault → CellStore → CellStore → Result (ArrayVec Node) ReadFault → Type 0
+abbrev pub GivesBlock : Result BlockSyntax ReadFault → CellStore → CellStore → Result (Items Node) ReadFault → Type 0
 GivesBlock s c c' (Ok v) = BlockStored s c c' v
 GivesBlock s c c' (Err e) = s ≡ Err e
 

@@ -1,7 +1,7 @@
 ghost use Rattle.std.specs.Prelude.{◌≡◌, [], length};
 ghost use Rattle.syntax.specs.Decoder.{decode_into};
 ghost use Rattle.layout.specs.Held.{Holds, PastBlank, read_answer, read_block};
-ghost use Rattle.reading.specs.Storing.{Grown, GivesBlock};
+ghost use Rattle.reading.specs.Storing.{Grown, GivesBlock, made};
 
 use crate::reader::BlockReader;
 use layout::store::CellStore;
@@ -25,11 +25,12 @@ fn clear(table: &mut Table<'_>)
     table.store.clear();
 }
 
-// Reads the nodes of a block, and its cells into a store that has none.
+// Reads a block into a vector and a store that have none of it; at a fault they have a part of it.
 #[tactic(auto, unfolding(syntax::specs::Decoder::decode), using(crate::proofs::Loading::grown_to))]
-fn nodes(bytes: &[u8], store: &mut CellStore<'_>) -> Result<Nodes, ReadFault>
-    requires { store.old.used ≡ 0 }
-    ensures gives { GivesBlock (decode_into (length store.old.cells.now) bytes.now) store.old store.new result }
+fn load(bytes: &[u8], nodes: &mut Nodes, store: &mut CellStore<'_>) -> Result<(), ReadFault>
+    requires none { nodes.old.items ≡ [] }
+    requires unused { store.old.used ≡ 0 }
+    ensures gives { GivesBlock (decode_into (length store.old.cells.now) bytes.now) store.old store.new (made result nodes.new) }
     ensures grown { Grown store.old store.new }
 {
     if store.cells.len() < MOST_CELLS {
@@ -43,9 +44,9 @@ fn nodes(bytes: &[u8], store: &mut CellStore<'_>) -> Result<Nodes, ReadFault>
         at: 0,
         store,
     };
-    let nodes = reader.nodes()?;
+    reader.nodes(nodes)?;
     reader.filling()?;
-    Ok(nodes)
+    Ok(())
 }
 
 // Reads a block; at a fault the rows are blank.
@@ -58,11 +59,8 @@ pub fn read(table: &mut Table<'_>, bytes: &[u8]) -> Result<(), ReadFault>
 {
     clear(table);
     // A match and no `?`: at a fault the rows are blanked again.
-    match nodes(bytes, &mut table.store) {
-        Ok(nodes) => {
-            table.nodes = nodes;
-            Ok(())
-        }
+    match load(bytes, &mut table.nodes, &mut table.store) {
+        Ok(()) => Ok(()),
         Err(fault) => {
             clear(table);
             Err(fault)

@@ -1,10 +1,12 @@
 ghost use Rattle.std.specs.Prelude.{◌≡◌};
 ghost use Rattle.rules.specs.Views.{node_of};
+ghost use Rattle.typing.specs.Waiting.{no_part};
 ghost use Rattle.typing.specs.Parts.{flow_part, constant_part, unary_part, binary_part, when_part, merge_part, choice_part};
 
 use crate::clocks::{flow_clock, merge_clock, when_clock};
 use crate::kinds::{binary_kind, flow_kind, unary_kind, under_truth};
 use crate::shared::shared;
+use layout::up_to::Blank;
 use rules::view::NodeView;
 use syntax::cell::UnaryOp;
 use syntax::header::Kind;
@@ -16,6 +18,14 @@ pub struct Part {
     pub control: bool,
     pub kind: Option<Kind>,
     pub clock: Option<usize>,
+}
+
+impl Blank for Part {
+    ghost blank = { no_part };
+
+    fn blank() -> Part {
+        Part::default()
+    }
 }
 
 impl Part {

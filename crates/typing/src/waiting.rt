@@ -1,5 +1,5 @@
 use crate::part::Part;
-use arrayvec::ArrayVec;
+use layout::up_to::UpTo;
 
 mod stack;
 
@@ -9,5 +9,5 @@ const MOST_WAITING: usize = 8;
 // The parts that wait for their operation, the latest last.
 #[derive(Drop)]
 pub struct Waiting {
-    parts: ArrayVec<Part, MOST_WAITING>,
+    parts: UpTo<Part, MOST_WAITING>,
 }

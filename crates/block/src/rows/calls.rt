@@ -1,19 +1,27 @@
-ghost use Rattle.std.specs.Prelude.{◌≡◌, ◌≤◌, [], length, Ok};
+ghost use Rattle.std.specs.Prelude.{◌≡◌, ℕ, ◌≤◌, [], length, Ok, slice_index_or};
 ghost use Rattle.syntax.specs.Decoder.{decode_into};
 ghost use Rattle.syntax.specs.Encoder.{encode};
+ghost use Rattle.layout.specs.Blanks.{blank_cell};
 ghost use Rattle.layout.specs.Layout.{expression_in};
 ghost use Rattle.layout.specs.Held.{Holds, block_in, read_answer, read_block, write_answer, write_bytes};
 
 use crate::rows::Rows;
-use arrayvec::ArrayVec;
 use layout::node::{Node, Span};
 use layout::parts::expression;
 use layout::store::{BLANK_CELL, CellStore};
 use layout::table::Table;
+use layout::up_to::UpTo;
 use reading::table as read_table;
 use syntax::cell::Cell;
 use syntax::fault::{ReadFault, WriteFault};
 use writing::table as write_table;
+
+#[tactic(auto, using(bits::proofs::Lists::read_replicated))]
+fn blank_all(cells: &mut [Cell])
+    ensures { (i : ℕ) → slice_index_or cells.new i blank_cell ≡ blank_cell }
+{
+    cells.fill(BLANK_CELL);
+}
 
 impl<'m> Rows<'m> {
     // Blank rows over lent cells, all of which are blanked.
@@ -22,10 +30,10 @@ impl<'m> Rows<'m> {
         ensures stands { block_in result.table ≡ [] }
         ensures long { length result.table.store.cells.now ≡ length cells.old }
     {
-        cells.fill(BLANK_CELL);
+        blank_all(cells);
         Rows {
             table: Table {
-                nodes: ArrayVec::new(),
+                nodes: UpTo::new(),
                 store: CellStore { cells, used: 0 },
             },
         }

@@ -1,8 +1,8 @@
-ghost use Rattle.std.specs.Prelude.{◌≡◌, ℕ};
+ghost use Rattle.std.specs.Prelude.{◌≡◌, ℕ, []};
 ghost use Rattle.syntax.specs.Syntax.{NodeSyntax};
 ghost use Rattle.syntax.specs.Decoder.{read_equations, read_node, read_fields};
 ghost use Rattle.layout.specs.Layout.{equation_row, equation_cells, node_row, node_cells};
-ghost use Rattle.reading.specs.Storing.{ReadsRows};
+ghost use Rattle.reading.specs.Storing.{ReadsRows, made};
 
 use crate::reader::BlockReader;
 use crate::reader::rows::Row;
@@ -49,13 +49,15 @@ impl BlockReader<'_, '_, '_> {
         self.rows(count)
     }
 
-    // The mark of a block, and its nodes.
+    // The mark of a block, and its nodes, which go where they are to lie: all of them are too large to be handed on.
     #[tactic(auto, unfolding(syntax::specs::Decoder::read_fields))]
-    pub fn nodes(&mut self) -> Result<Nodes, ReadFault>
-        ensures reads { ReadsRows node_row node_cells read_fields self.old self.new result }
+    pub fn nodes(&mut self, nodes: &mut Nodes) -> Result<(), ReadFault>
+        requires { nodes.old.items ≡ [] }
+        ensures reads { ReadsRows node_row node_cells read_fields self.old self.new (made result nodes.new) }
         ensures same_store { self.new.store.ghost_name ≡ self.old.store.ghost_name }
     {
         self.mark()?;
-        self.counted_rows()
+        let n = self.count(3)?;
+        self.fill(n, nodes)
     }
 }

@@ -1,4 +1,4 @@
-ghost use Rattle.std.specs.Prelude.{◌≡◌, ℕ, ◌≤◌, List};
+ghost use Rattle.std.specs.Prelude.{◌≡◌, ℕ, ◌≤◌, List, []};
 ghost use Rattle.syntax.specs.declared.cell.Cell.{Cell};
 ghost use Rattle.syntax.specs.declared.header.Flow as flow;
 ghost use Rattle.syntax.specs.declared.header.DerivedClock as derived_clock;
@@ -6,11 +6,11 @@ ghost use Rattle.syntax.specs.Parse.{Parser, field, many};
 ghost use Rattle.syntax.specs.Decoder.{read_cell, read_flow, read_clock, read_expression};
 ghost use Rattle.syntax.specs.Syntax.{Expression};
 ghost use Rattle.layout.specs.Layout.{whole, span_row};
-ghost use Rattle.reading.specs.Storing.{ReadsInto, ReadsRows, as_is, no_cells, counted, only_cells};
+ghost use Rattle.reading.specs.Storing.{ReadsInto, ReadsRows, as_is, no_cells, counted, made, only_cells};
 
 use crate::reader::BlockReader;
-use arrayvec::ArrayVec;
 use layout::node::Span;
+use layout::up_to::{Blank, UpTo};
 use syntax::fault::ReadFault;
 use syntax::header::{DerivedClock, Flow, Kind};
 
@@ -100,25 +100,34 @@ impl Row for Span {
 }
 
 impl BlockReader<'_, '_, '_> {
-    // Reads `n` rows.
-    pub fn rows<T: Row + Default + Drop, const N: usize>(
+    // Reads `n` rows into a vector that has none; at a fault it has some of them.
+    pub fn fill<T: Row + Blank, const N: usize>(
         &mut self,
         n: u8,
-    ) -> Result<ArrayVec<T, N>, ReadFault>
-        requires { n ≤ N }
-        ensures { ReadsRows T.row_of T.cells (many T.decoder n) self.old self.new result }
+        rows: &mut UpTo<T, N>,
+    ) -> Result<(), ReadFault>
+        requires fits { n ≤ N }
+        requires empty { rows.old.items ≡ [] }
+        ensures { ReadsRows T.row_of T.cells (many T.decoder n) self.old self.new (made result rows.new) }
     {
-        let mut rows = ArrayVec::new();
         for _ in 0..n {
             rows.push(T::read(self)?);
         }
+        Ok(())
+    }
+
+    // Reads `n` rows.
+    pub fn rows<T: Row + Blank, const N: usize>(&mut self, n: u8) -> Result<UpTo<T, N>, ReadFault>
+        requires { n ≤ N }
+        ensures { ReadsRows T.row_of T.cells (many T.decoder n) self.old self.new result }
+    {
+        let mut rows = UpTo::new();
+        self.fill(n, &mut rows)?;
         Ok(rows)
     }
 
     // Reads how many rows there are, less one, and the rows.
-    pub fn counted_rows<T: Row + Default + Drop, const N: usize>(
-        &mut self,
-    ) -> Result<ArrayVec<T, N>, ReadFault>
+    pub fn counted_rows<T: Row + Blank, const N: usize>(&mut self) -> Result<UpTo<T, N>, ReadFault>
         requires { 8 ≤ N }
         ensures { ReadsRows T.row_of T.cells (counted T.decoder) self.old self.new result }
     {

@@ -7,6 +7,7 @@ ghost use Rattle.rules.specs.Views.{node_of, block_of};
 
 use crate::view::{BlockView, NodeView};
 use layout::node::Node;
+use layout::parts::front;
 use syntax::cell::Cell;
 use syntax::header::{DerivedClock, Flow};
 
@@ -43,7 +44,7 @@ pub fn view_of<'a>(node: &'a Node, cells: &'a [Cell]) -> NodeView<'a>
         inputs: node.inputs,
         outputs: node.outputs,
         locals: node.locals,
-        flows: &node.flows,
+        flows: front(&node.flows, node.flow_count()),
         clocks: &node.clocks,
         equations: &node.equations,
         cells,

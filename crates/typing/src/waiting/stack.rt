@@ -3,23 +3,25 @@ ghost use Rattle.typing.specs.Stack.{Gives, push, take_part, take_plain, alone_p
 ghost use Rattle.typing.specs.Waiting.{waiting_in};
 
 use crate::part::Part;
-use crate::waiting::Waiting;
-use arrayvec::ArrayVec;
+use crate::waiting::{MOST_WAITING, Waiting};
+use layout::up_to::UpTo;
 
 impl Waiting {
     pub fn new() -> Waiting
         ensures { waiting_in result ≡ [] }
     {
-        Waiting {
-            parts: ArrayVec::new(),
-        }
+        Waiting { parts: UpTo::new() }
     }
 
     // Refuses a ninth part.
     pub fn push(&mut self, part: Part) -> Option<()>
         ensures { Gives (push part (waiting_in self.old)) result (waiting_in self.new) }
     {
-        self.parts.try_push(part).ok()
+        if self.parts.len() == MOST_WAITING {
+            return None;
+        }
+        self.parts.push(part);
+        Some(())
     }
 
     pub fn take(&mut self) -> Option<Part>

@@ -5,6 +5,7 @@ ghost use Rattle.writing.specs.Writing.{Room, Wrote};
 
 use crate::writer::{BitWriter, Put};
 use layout::node::{Equation, Node};
+use layout::parts::front;
 use layout::table::Nodes;
 
 impl Put for Node {
@@ -13,7 +14,7 @@ impl Put for Node {
     #[tactic(auto, using(crate::proofs::Puts::size_append, crate::proofs::Puts::put_append, crate::proofs::Puts::mapped))]
     fn put(&self, writer: &mut BitWriter<'_>) {
         writer.put_counts(self);
-        writer.put_all(&self.flows);
+        writer.put_all(front(&self.flows, self.flow_count()));
         writer.put_all(&self.clocks);
         writer.put_equations(&self.equations);
     }

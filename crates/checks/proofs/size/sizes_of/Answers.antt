@@ -33,7 +33,7 @@ loop-node-preserved c =
     c.node_size-size.ensures
     ∙ ap (λ (n : NodeSyntax). capped_size (equations_size b c.deref.result.now n.equations)) read
     ∙ ap (λ known. capped_size (equations_size b known (get_or b k no_node).equations)) (c.deref.ensures.0 ∙ c.loop-node.invariant) in
-    c.push.ensures.items ∙ ap (λ xs. xs ++ (r ∷ [])) c.loop-node.invariant ∙ sizes_more b k r within size
+    c.push.ensures ∙ ap (λ xs. xs ++ (r ∷ [])) c.loop-node.invariant ∙ sizes_more b k r within size
 
 pub returns : goal.returns
 returns c =

@@ -10,4 +10,4 @@ loop-on-preserved c =
     let v = c.args.view.now in
     let waits = waits_on (node_of v) (equation_in v.cells.now c.args.equation.now) in
     let e = c.equation_waits.ensures ∙ ap (λ on. waits (equation_in v.cells.now on)) c.on-item.is in
-    c.push.ensures.items ∙ mapped_more waits (equation_in v.cells.now) _ _ _ c.loop-on.invariant e c.loop-on-test.true
+    c.push.ensures ∙ mapped_more waits (equation_in v.cells.now) _ _ _ c.loop-on.invariant e c.loop-on-test.true

@@ -16,7 +16,7 @@ pub loop-preserved : goal.loop-preserved
 loop-preserved c =
     let p = c.in_ok-x.ensures in
     let i = c.loop.invariant in
-    rw c.push.ensures.items (
+    rw c.push.ensures (
       length_push c.loop.order.items c.in_ok-x.x ∙ ap (λ k. k + 1) i.0,
       length-set c.loop.done c.in_ok-x.x true ∙ i.1,
       picking_more _ _ _ i.2 (omega (arith, i.1)) c.in_ok-x.x p.0 p.1 p.2,

@@ -3,7 +3,7 @@ use Rattle.std.proofs.lemmas.Bool.{eqb-false}
 use Rattle.bits.specs.Bits.{bits_of}
 use Rattle.reading.specs.Storing.{ended}
 use Rattle.reading.proofs.Loading.{reads_all, block_to}
-use Rattle.reading.proofs.table.nodes.Goals as goal
+use Rattle.reading.proofs.table.load.Goals as goal
 
 pub returns-clause-gives : goal.returns-clause-gives
 returns-clause-gives c =
