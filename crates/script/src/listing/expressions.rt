@@ -1,5 +1,4 @@
 use crate::listing::cells::{Shown, binary_word};
-use crate::listing::joined;
 use crate::listing::node::NodeListing;
 use layout::node::Span;
 use std::alloc::AllocError;
@@ -76,11 +75,14 @@ impl NodeListing<'_, '_> {
 
     // Cells that are no expression, one after another.
     fn postfix(&self, cells: &[Cell]) -> Result<String, AllocError> {
-        let words = cells
-            .iter()
-            .map(|cell| self.shown(*cell).to_string(self.heap));
-        let words = joined(self.heap, words, " ")?;
-        format!(in self.heap; "?cells[{words}]")
+        // Written into one text: to join a text for each cell takes half as long again.
+        let mut text = String::from_str(self.heap, "?cells[")?;
+        for (i, cell) in cells.iter().enumerate() {
+            let between = if i == 0 { "" } else { " " };
+            write!(text, "{between}{}", self.shown(*cell))?;
+        }
+        text.push(']')?;
+        Ok(text)
     }
 
     pub fn expression(&self, span: Span) -> Result<String, AllocError> {
