@@ -1,4 +1,4 @@
-ghost use Rattle.std.specs.Prelude.{⊤, false, IsSome, ◌↔◌, ◌≡◌, ◌+◌, ◌^◌, ◌<◌, ◌≤◌, [], ◌∷◌, ◌++◌, length, ◌==◌, take, slice_set};
+ghost use Rattle.std.specs.Prelude.{⊤, false, IsSome, OnSome, IfNone, ◌↔◌, ◌≡◌, ◌+◌, ◌^◌, ◌<◌, ◌≤◌, [], ◌∷◌, ◌++◌, length, ◌==◌, take, slice_set};
 ghost use Rattle.std.specs.Iterator.Runs.{EveryRun, ItemsMapTo};
 ghost use Rattle.std.specs.Slice.Iter.{iter_rest, iter_steps};
 ghost use Rattle.std.specs.Option.{option_to_list};
@@ -23,7 +23,7 @@ impl Blank for u8 {
     ghost blank = { 0 };
 
     fn blank() -> u8 {
-        u8::MIN
+        u8::default()
     }
 }
 
@@ -91,13 +91,17 @@ impl<T: Blank, const N: usize> UpTo<T, N> {
         Some(element)
     }
 
-    // Another element in the place of one. That there is one is said once more, since the size of a place may be any.
-    pub fn set(&mut self, number: usize, element: T)
-        requires { number < length self.old.items }
-        ensures { self.new.items ≡ slice_set self.old.items number element }
+    // Another element in the place of one; nothing where there is none.
+    pub fn set(&mut self, number: usize, element: T) -> Option<()>
+        ensures variant { IsSome result ↔ (number < length self.old.items) }
+        ensures some { OnSome result (self.new.items ≡ slice_set self.old.items number element) }
+        ensures none { IfNone result (self.new ≡ self.old) }
     {
-        prove!(number < usize::from(self.count));
+        if number >= usize::from(self.count) {
+            return None;
+        }
         self.places[number] = element;
+        Some(())
     }
 
     pub fn len(&self) -> usize
